@@ -1,0 +1,5 @@
+pub mod Ops
+pub mod Root
+pub mod Order
+pub mod Whole
+pub mod Total

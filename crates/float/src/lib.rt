@@ -1,0 +1,1 @@
+// Functions on `f64` that the language lacks.

@@ -1,0 +1,1 @@
+// glyphs.rs: hash, stream, radical inverse and quotas.

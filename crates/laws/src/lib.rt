@@ -1,0 +1,1 @@
+// Laws that the proofs of every layer share. It has no functions.
