@@ -1,0 +1,4 @@
+pub mod Ring
+pub mod Inside
+pub mod Area
+pub mod Clearance
