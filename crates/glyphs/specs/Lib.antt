@@ -1,1 +1,4 @@
 pub mod Apportion
+pub mod Bounds
+pub mod Points
+pub mod Rect

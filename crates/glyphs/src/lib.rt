@@ -1,1 +1,5 @@
-// glyphs.rs: hash, stream, radical inverse and quotas.
+// glyphs.rs, point.rs and rectangle.rs: hash, stream, radical inverse and quotas; points, obstacles and bounds.
+pub mod bounds;
+pub mod mode;
+pub mod points;
+pub mod rect;

@@ -6,8 +6,13 @@ use lib.Dec.{ltb}
 use lib.Ieee.{Float, neg}
 use Rattle.float.specs.Ops.{_+ᶠ_, _-ᶠ_, _*ᶠ_, _/ᶠ_, _<ᶠ_, _>ᶠ_, 0ᶠ, 1ᶠ, ∞}
 use Rattle.float.specs.Order.{clamp, sqrt}
-use Rattle.regions.specs.Ring.{Ring, Piece, vertices, xAt, yAt, next, outer, holes}
+use Rattle.glyphs.specs.Points.{Ring, vertices, xAt, yAt}
+use Rattle.regions.specs.Ring.{Piece, next, outer, holes}
 use Rattle.regions.specs.Inside.{pointInPolygon}
+
+-- t, of `dot` = (px - a.x()) * dx + (py - a.y()) * dy
+unfoldable pub along : Float → Float → Float
+along dot len2 = cond (len2 >ᶠ 0ᶠ) (clamp (dot /ᶠ len2) 0ᶠ 1ᶠ) 0ᶠ
 
 -- the square of the distance from (px, py) to the edge from a to b
 unfoldable pub edgeSquare : Float → Float → Float → Float → Float → Float → Float
@@ -15,7 +20,7 @@ edgeSquare px py ax ay bx by =
     let dx = bx -ᶠ ax in
     let dy = by -ᶠ ay in
     let len2 = dx *ᶠ dx +ᶠ dy *ᶠ dy in
-    let t = cond (len2 >ᶠ 0ᶠ) (clamp (((px -ᶠ ax) *ᶠ dx +ᶠ (py -ᶠ ay) *ᶠ dy) /ᶠ len2) 0ᶠ 1ᶠ) 0ᶠ in
+    let t = along ((px -ᶠ ax) *ᶠ dx +ᶠ (py -ᶠ ay) *ᶠ dy) len2 in
     let qx = ax +ᶠ t *ᶠ dx in
     let qy = ay +ᶠ t *ᶠ dy in
     (px -ᶠ qx) *ᶠ (px -ᶠ qx) +ᶠ (py -ᶠ qy) *ᶠ (py -ᶠ qy)

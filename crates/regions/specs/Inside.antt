@@ -4,7 +4,8 @@ use mathlib.Core.Bool.{Bool, true, false, not, cond, _&&_, Bool·beq}
 use lib.Dec.{ltb}
 use lib.Ieee.{Float}
 use Rattle.float.specs.Ops.{_+ᶠ_, _-ᶠ_, _*ᶠ_, _/ᶠ_, _<ᶠ_, _>ᶠ_, ε}
-use Rattle.regions.specs.Ring.{Ring, vertices, xAt, yAt, prev}
+use Rattle.glyphs.specs.Points.{Ring, vertices, xAt, yAt}
+use Rattle.regions.specs.Ring.{prev}
 
 -- whether the ray from (x, y) crosses the edge between the vertices i and j
 unfoldable pub intersect : Float → Float → Float → Float → Float → Float → Bool

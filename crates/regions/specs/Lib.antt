@@ -2,3 +2,4 @@ pub mod Ring
 pub mod Inside
 pub mod Area
 pub mod Clearance
+pub mod Squares

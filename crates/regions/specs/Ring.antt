@@ -1,31 +1,20 @@
 -- A ring is the list of its coordinates, x and y in turn; a piece is the list of its rings, the outer ring first.
 -- A piece comes as the sizes of its rings, in vertices, and their coordinates, ring after ring. The laws take it apart for loops.
-use Prim.Native.Nat.{ℕ, zero, suc, _+_, _-_, _*_, _/_, _<_, _≤_}
-use mathlib.Core.Path.{_≡_, refl, ap}
-use mathlib.Core.Bool.{Bool, cond}
+use Prim.Native.Nat.{ℕ, zero, suc, _+_, _-_, _*_, _<_, _≤_}
+use mathlib.Core.Path.{_≡_, refl}
+use mathlib.Core.Bool.{cond}
 use mathlib.Core.List.{List, [], _∷_}
 use native.Mathlib.Omega.{arith}
 use native.Mathlib.Numerals.{add-one}
+use native.Mathlib.Nat.{zero-add}
 use lib.Dec.{ltb}
 use lib.ListN.{length, getD, take, drop, drop-of-length-le}
-use lib.Seq.{drop-cons, drop-drop}
-use lib.Ieee.{Float, nan}
-
-abbrev pub Ring : Type 0
-Ring = List Float
+use lib.Seq.{drop-cons}
+use lib.Ieee.{Float}
+use Rattle.glyphs.specs.Points.{Ring}
 
 abbrev pub Piece : Type 0
 Piece = List Ring
-
--- v.len(), v[i].x() and v[i].y()
-abbrev pub vertices : Ring → ℕ
-vertices ring = length ring / 2
-
-abbrev pub xAt : Ring → ℕ → Float
-xAt ring i = getD ring (i * 2) nan
-
-abbrev pub yAt : Ring → ℕ → Float
-yAt ring i = getD ring (i * 2 + 1) nan
 
 -- (i + 1) % n, for an i below n
 unfoldable pub next : ℕ → ℕ → ℕ
@@ -78,3 +67,15 @@ rings-end a sizes coords k h = rw drop-of-length-le
 pub sum-step : (sizes : List ℕ) (k : ℕ) → k < length sizes → sum (drop k sizes) ≡ getD sizes k 0 + sum (drop (k + 1) sizes)
 unfolding sum
 sum-step sizes k h = rw (add-one, drop-cons sizes k 0)
+
+pub first-ring :
+    (sizes : List ℕ) (coords : List Float) → 0 < length sizes
+    → pieceOf sizes coords ≡ part coords 0 (getD sizes 0 0) ∷ ringsFrom (getD sizes 0 0) (drop 1 sizes) coords
+unfolding ringsFrom
+first-ring [] coords h = absurd (omega arith)
+first-ring (n ∷ sizes) coords h = rw zero-add
+
+pub first-sum : (sizes : List ℕ) → 0 < length sizes → sum sizes ≡ getD sizes 0 0 + sum (drop 1 sizes)
+unfolding sum
+first-sum [] h = absurd (omega arith)
+first-sum (n ∷ sizes) h = refl

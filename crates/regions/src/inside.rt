@@ -2,8 +2,8 @@
 ghost use mathlib.Core.Path.{_≡_};
 ghost use lib.Ieee.{Float};
 ghost use Rattle.regions.specs.Inside.{intersect, flip, pointInPolygon};
-use crate::ring::vx;
-use crate::ring::vy;
+use glyphs::points::vx;
+use glyphs::points::vy;
 
 // Whether the ray from (x, y) crosses the edge between the vertices i and j.
 fn crosses(x: f64, y: f64, xi: f64, yi: f64, xj: f64, yj: f64) -> bool

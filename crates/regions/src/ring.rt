@@ -1,22 +1,8 @@
-// A ring is a slice of its coordinates, x and y in turn.
+// Walking round a ring, and taking one out of a piece.
 ghost use mathlib.Core.Path.{_≡_};
-ghost use Prim.Native.Nat.{ℕ, _+_, _*_, _/_, _<_, _≤_};
+ghost use Prim.Native.Nat.{ℕ, _+_, _*_, _<_, _≤_};
 ghost use lib.ListN.{length};
-ghost use Rattle.regions.specs.Ring.{xAt, yAt, next, part, vertices};
-
-pub fn vx(ring: &[f64], i: usize) -> f64
-    requires { ⌜ i < length (now ring) / 2 ⌝ }
-    ensures { λ r. ⌜ r ≡ xAt (now (ring .entry)) i ⌝ }
-{
-    ring[i * 2]
-}
-
-pub fn vy(ring: &[f64], i: usize) -> f64
-    requires { ⌜ i < length (now ring) / 2 ⌝ }
-    ensures { λ r. ⌜ r ≡ yAt (now (ring .entry)) i ⌝ }
-{
-    ring[i * 2 + 1]
-}
+ghost use Rattle.regions.specs.Ring.{next, part};
 
 // The vertex after vertex `i` of `n`.
 pub fn after(n: usize, i: usize) -> usize
