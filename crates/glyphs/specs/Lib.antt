@@ -1,1 +1,4 @@
 pub mod Apportion
+pub mod Halton
+pub mod Hash
+pub mod Stream

@@ -1,3 +1,5 @@
+pub mod Casts
 pub mod Choice
+pub mod Folds
 pub mod Lists
 pub mod Sort
