@@ -2,4 +2,6 @@ pub mod Casts
 pub mod Choice
 pub mod Folds
 pub mod Lists
+pub mod Orders
 pub mod Sort
+pub mod Sorted
