@@ -5,3 +5,4 @@ pub mod Lists
 pub mod Orders
 pub mod Sort
 pub mod Sorted
+pub mod Truth
