@@ -1,6 +1,7 @@
 -- Comparisons that order their values in a line: of numbers, of what a function makes of a value, turned round, and one after another.
 -- Rests on the kit's clauses of `compare`.
 use mathlib.Core.Path.{_≡_, refl, sym, ap, _∙_, subst}
+use mathlib.Core.Logic.{_⊎_, inl, inr}
 use Prim.Native.Nat.{ℕ, zero, suc, _≤_, _<_, compare, Ordering, Ordering·lt, Ordering·eq, Ordering·gt, compare·zero-suc, compare·suc-zero, compare·suc-suc}
 use native.Mathlib.Omega.{arith}
 
@@ -59,6 +60,14 @@ compared m n o h = decided m n (compare m n) o (says m n) h
 -- and back
 pub told : (m n : ℕ) (o : Ordering) → compare m n ≡ o → Says m n o
 told m n o e = subst (λ (p : Ordering). Says m n p) e (says m n)
+
+split : (m n : ℕ) (o : Ordering) → Says m n o → (m < n) ⊎ (n ≤ m)
+split m n Ordering·lt h = inl h
+split m n Ordering·eq h = inr (omega arith)
+split m n Ordering·gt h = inr (omega arith)
+
+pub lt-or-le : (m n : ℕ) → (m < n) ⊎ (n ≤ m)
+lt-or-le m n = split m n (compare m n) (says m n)
 
 flip : (m n : ℕ) (o : Ordering) → Says m n o → Says n m (reverse o)
 flip m n Ordering·lt h = h
