@@ -1,4 +1,5 @@
 // glyphs.rs and the random stream: hash, stream, radical inverse and quotas.
 pub mod halton;
 pub mod hash;
+pub mod options;
 pub mod stream;
