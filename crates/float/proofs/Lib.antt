@@ -1,6 +1,9 @@
+mod Flag
 mod Digit
 mod Pattern
 mod Residual
 mod Scaled
 mod Value
 mod Tests
+mod Casts
+mod Whole

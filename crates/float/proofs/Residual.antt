@@ -7,8 +7,7 @@ use native.Mathlib.Nat.{le-of-lt, lt-of-le-of-lt, mul-le-mul-left, mul-lt-mul-of
 use native.Mathlib.Omega.{arith}
 use lib.Dec.{ltb}
 use lib.Pow.{pow-pos}
-use mir.Syntax.{w64}
-use mir.Val.{Fits, boolByte}
+use mir.Val.{boolByte}
 use borrow.Author.Tests.{ltb-true, ltb-false}
 use Rattle.float.specs.Root.{Near}
 use Rattle.float.proofs.Digit.{near-suc}
@@ -35,17 +34,6 @@ pub residual : (m r : ℕ) → r / 2 ^ 27 * (r / 2 ^ 27) * 4 ≤ m → r / 2 ^ 2
     → r % 2 ^ 27 * (r % 2 ^ 27) ≤ ((m - r / 2 ^ 27 * (r / 2 ^ 27) * 4) * 2 ^ 24 - r / 2 ^ 27 * (r % 2 ^ 27)) * 2 ^ 28
     → r * r + rest m (r / 2 ^ 27) (r % 2 ^ 27) ≡ m * 2 ^ 52
 residual m r x y z = subst (λ (n : ℕ). n * n + rest m (r / 2 ^ 27) (r % 2 ^ 27) ≡ m * 2 ^ 52) (div-add-mod' r (2 ^ 27)) (left m (r / 2 ^ 27) (r % 2 ^ 27) x y z)
-
--- ---- the sum with a flag fits a word
-flag-le : (b : Bool) → boolByte b ≤ 1
-flag-le true = omega arith
-flag-le false = omega arith
-
-pub flag-fits : (r : ℕ) (a : Bool) → r < 2 ^ 54 → Fits w64 (r + boolByte a)
-flag-fits r a h = record { fits = omega (arith, flag-le a) }
-
-pub flags-fit : (r : ℕ) (a b : Bool) → r < 2 ^ 54 → Fits w64 (r + boolByte a + boolByte b)
-flags-fit r a b h = record { fits = omega (arith, flag-le a, flag-le b) }
 
 -- ---- which is nearest: r and what two tests add to it
 pub chosen : (y r d : ℕ) → r * r + d ≡ y → 0 < r → d ≤ r * 5 + 6 → Near y (r + boolByte (ltb r d) + boolByte (ltb (r * 3 + 2) d))

@@ -1,10 +1,10 @@
 -- The pattern of the root of m * 2 ^ 52 * 2 ^ g, from the whole number r nearest to √(M * 2 ^ 52), where M is m or 2 * m as g is even or odd. Assumes nothing.
-use mathlib.Core.Path.{_≡_, refl, sym, ap, _∙_, subst}
-use Prim.Native.Nat.{ℕ, suc, _+_, _-_, _*_, _/_, _%_, _^_, _≤_, _<_}
-use native.Mathlib.Nat.{le-trans, le-of-eq, lt-of-le-of-lt, lt-of-lt-of-le, mul-le-mul-right, mul-lt-mul-of-pos-right, mul-assoc, mul-right-comm, mod-eq-of-lt, mul-le-mul-left, le-mul-of-pos-right, zero-lt-suc}
+use mathlib.Core.Path.{_≡_, sym, ap, _∙_, subst}
+use Prim.Native.Nat.{ℕ, _+_, _*_, _/_, _%_, _^_, _≤_, _<_}
+use native.Mathlib.Nat.{le-trans, le-of-eq, lt-of-le-of-lt, mul-le-mul-right, mul-lt-mul-of-pos-right, mul-assoc, mul-right-comm, mod-eq-of-lt, mul-le-mul-left, le-mul-of-pos-right, zero-lt-suc}
 use native.Mathlib.Omega.{arith}
 use lib.Pow.{pow-add, pow-pos, pow-lt, pow-mono}
-use lib.Ieee.{binary64, toBits, units}
+use lib.Ieee.{binary64, toBits}
 use Rattle.float.specs.Root.{nearestRoot}
 use Rattle.float.specs.Root.{Near}
 use Rattle.float.specs.Laws.Floor.{nearest-at, near-le, near-ge}

@@ -1,7 +1,7 @@
 -- A finite x above zero from its bit pattern: what `rootOf` takes the root of is m * 2 ^ 52 * 2 ^ g, for an m of 53 digits. Assumes nothing.
 use mathlib.Core.Path.{_≡_, refl, sym, ap, _∙_, subst}
 use Prim.Native.Nat.{ℕ, zero, suc, _+_, _-_, _*_, _/_, _%_, _^_, _≤_, _<_}
-use native.Mathlib.Nat.{le-trans, le-of-eq, lt-of-lt-of-le, not-le-of-lt, lt-of-not-le, lt-irrefl, mul-one, mul-pos, mul-assoc, mul-comm, mul-right-comm, zero-mul, mul-div-cancel, mod-eq-of-lt, mul-le-mul-right, mul-lt-mul-of-pos-right}
+use native.Mathlib.Nat.{le-trans, le-of-eq, lt-of-lt-of-le, not-le-of-lt, lt-of-not-le, lt-irrefl, mul-one, mul-pos, mul-assoc, mul-right-comm, zero-mul, mul-div-cancel, mod-eq-of-lt, mul-le-mul-right, mul-lt-mul-of-pos-right}
 use native.Mathlib.Omega.{arith}
 use mathlib.Core.Bool.{Bool, true, false, cond, true≢false}
 use lib.Dec.{T, leb, eqb, leb→le, eqb→eq, not-T, lit≤}

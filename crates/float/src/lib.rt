@@ -2,9 +2,14 @@
 // definition in specs/.
 ghost use mathlib.Core.Path.{_≡_};
 ghost use Prim.Native.Nat.{_+_, _*_, _-_, _^_, _≤_, _<_};
-ghost use lib.Ieee.{binary64, toBits, ofBits};
+ghost use mathlib.Core.Bool.{true, false};
+ghost use lib.IntN.{pos};
+ghost use lib.Dec.{T};
+ghost use lib.Ieee.{fin, binary64, lt, toBits, ofBits};
 ghost use Rattle.float.specs.Root.{Near, nearestRoot, rootOf};
 ghost use Rattle.float.specs.Order.{abs, min, max, clamp, sqrt, hypot};
+ghost use Rattle.float.specs.Whole.{floor, ceil, as-i64, as-usize};
+ghost use Rattle.float.specs.Total.{totalKey, totalLess};
 
 // The whole number nearest to √(m * 2^52), digit by digit. With y for m * 2^52, at each turn q is the root's
 // digits down to the bit `bit`, and what is left of y is y - q * q, kept as `rest` * `bit`. A turn tries the
@@ -190,4 +195,113 @@ pub fn clamp(x: f64, low: f64, high: f64) -> f64
     } else {
         x
     }
+}
+
+// The least whole number at least x, for an x that is above zero and below 2^53.
+fn whole_above(x: f64) -> u64
+    requires { ⌜ T (lt (fin false 0 (pos 0)) x) ⌝ ∗ ⌜ T (lt x (fin false 1 (pos 53))) ⌝ }
+    ensures { λ r. ⌜ r ≡ as-usize (ceil x) ⌝ }
+{
+    let n = std::num::truncating_f64_to_u64(x);
+    n + ((n as f64) < x) as u64
+}
+
+// `f64::floor`.
+pub fn floor(x: f64) -> f64
+    ensures { λ r. ⌜ r ≡ floor x ⌝ }
+{
+    if x > 0.0 {
+        if x < 9007199254740992.0 {
+            std::num::truncating_f64_to_u64(x) as f64
+        } else {
+            x
+        }
+    } else if x < 0.0 {
+        if x > -9007199254740992.0 {
+            -(whole_above(-x) as f64)
+        } else {
+            x
+        }
+    } else {
+        x
+    }
+}
+
+// `as i64`.
+pub fn as_i64(x: f64) -> i64
+    ensures { λ r. ⌜ r ≡ as-i64 x ⌝ }
+{
+    if x >= -9223372036854775808.0 {
+        if x < 9223372036854775808.0 {
+            std::num::truncating_f64_to_i64(x)
+        } else {
+            i64::MAX
+        }
+    } else if x < 0.0 {
+        i64::MIN
+    } else {
+        0
+    }
+}
+
+// `floor() as i64`. Only below zero does it differ from `as i64`, and not from -2^53 down.
+pub fn floor_i64(x: f64) -> i64
+    ensures { λ r. ⌜ r ≡ as-i64 (floor x) ⌝ }
+{
+    if x < 0.0 {
+        if x > -9007199254740992.0 {
+            return 0 - (whole_above(-x) as i64);
+        }
+    }
+    as_i64(x)
+}
+
+// `ceil() as i64`. Only above zero does it differ from `as i64`, and not from 2^53 up.
+pub fn ceil_i64(x: f64) -> i64
+    ensures { λ r. ⌜ r ≡ as-i64 (ceil x) ⌝ }
+{
+    if x > 0.0 {
+        if x < 9007199254740992.0 {
+            return whole_above(x) as i64;
+        }
+    }
+    as_i64(x)
+}
+
+// `as usize`.
+pub fn as_usize(x: f64) -> usize
+    ensures { λ r. ⌜ r ≡ as-usize x ⌝ }
+{
+    if x > -1.0 {
+        if x < 18446744073709551616.0 {
+            std::num::truncating_f64_to_u64(x) as usize
+        } else {
+            usize::MAX
+        }
+    } else {
+        0
+    }
+}
+
+// The key by which `f64::total_cmp` orders.
+pub fn total_key(x: f64) -> u64
+    ensures { λ r. ⌜ r ≡ totalKey x ⌝ }
+{
+    if x != x {
+        0xfff8_0000_0000_0000
+    } else {
+        let bits = f64::to_bits(x);
+        if bits >= 0x8000_0000_0000_0000 {
+            0xffff_ffff_ffff_ffff - bits
+        } else {
+            0x8000_0000_0000_0000 + bits
+        }
+    }
+}
+
+// Whether `f64::total_cmp` puts a before b.
+pub fn total_less(a: f64, b: f64) -> bool
+    ensures { λ r. ⌜ r ≡ totalLess a b ⌝ }
+{
+    total_key(a) < total_key(b)
 }

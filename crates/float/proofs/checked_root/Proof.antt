@@ -1,11 +1,12 @@
 -- `float::checked_root` meets its contract: what is left after the square of the guess says which whole number is nearest.
 -- Rests on `Residual.antt`, and on the contract of `digit_root` where the guess is far.
 use mathlib.Core.Bool.{Bool}
-use Prim.Native.Nat.{ℕ, _+_, _-_, _*_, _/_, _%_, _^_}
+use Prim.Native.Nat.{ℕ, _+_, _*_, _/_, _%_, _^_}
 use native.Mathlib.Omega.{arith}
 use lib.Dec.{ltb}
 use borrow.Author.Needs.{needs}
-use Rattle.float.proofs.Residual.{halves-lt, high-half, low-half, residual, rest, flag-fits, flags-fit, chosen}
+use Rattle.float.proofs.Flag.{flag-fits, flags-fit}
+use Rattle.float.proofs.Residual.{halves-lt, high-half, low-half, residual, rest, chosen}
 use Rattle.float.proofs.checked_root.Statement.{statement}
 use Rattle.float.proofs.checked_root.Tie as tie
 

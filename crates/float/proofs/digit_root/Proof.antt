@@ -1,12 +1,12 @@
 -- `float::digit_root` meets its contract. The invariant: q has the digits of the root down to the bit, and what is left is kept beside it. The measure is the bit.
 -- Rests on `Digit.antt`.
-use mathlib.Core.Path.{_≡_, refl}
+use mathlib.Core.Path.{refl}
 use native.Mathlib.Nat.{le-refl}
 use lib.Dec.{lit<}
-use Prim.Native.Nat.{ℕ, _+_, _-_, _*_, _^_, _≤_, _<_}
+use Prim.Native.Nat.{ℕ, _-_, _*_, _^_, _≤_, _<_}
 use native.Mathlib.Omega.{arith}
 use borrow.Author.Needs.{needs}
-use Rattle.float.proofs.Digit.{Digits, State, again-one, again-zero, at-one, nearest-up, nearest-down}
+use Rattle.float.proofs.Digit.{State, again-one, again-zero, at-one, nearest-up, nearest-down}
 use Rattle.float.proofs.digit_root.Statement.{statement}
 use Rattle.float.proofs.digit_root.Tie as tie
 

@@ -1,8 +1,8 @@
 -- `floorRoot` is the whole part of the root, and `nearestRoot` of a * 4 ^ k, for an a whose root has all the digits that the format keeps, is r * 2 ^ k,
 -- for the r with 2 * √a between 2 * r - 1 and 2 * r + 1. Assumes nothing.
-use mathlib.Core.Path.{_≡_, refl, sym, ap, _∙_, subst}
-use Prim.Native.Nat.{ℕ, zero, suc, _+_, _-_, _*_, _/_, _%_, _^_, _≤_, _<_, zero-le, compare, Ordering, Ordering·lt, Ordering·eq, Ordering·gt}
-use native.Mathlib.Nat.{le-refl, le-trans, le-of-eq, le-of-lt, lt-of-lt-of-le, lt-of-le-of-lt, lt-of-not-le, not-le-of-lt, mul-le-mul, mul-le-mul-right, mul-lt-mul-of-pos-right, lt-of-mul-lt-mul-right, le-of-mul-le-mul-right, eq-of-mul-eq-mul-right, mul-pos, mul-assoc, mul-comm, mul-mul-mul-comm, pow-suc, pow-le-pow-left, zero-lt-suc, div-lt-iff-lt-mul, div-mul-le-self, lt-div-mul-add, lt-suc-self, add-mul, one-mul}
+use mathlib.Core.Path.{_≡_, sym, ap, _∙_, subst}
+use Prim.Native.Nat.{ℕ, zero, suc, _+_, _-_, _*_, _/_, _^_, _≤_, _<_, zero-le, compare, Ordering, Ordering·lt, Ordering·eq, Ordering·gt}
+use native.Mathlib.Nat.{le-trans, le-of-eq, le-of-lt, lt-of-lt-of-le, lt-of-le-of-lt, lt-of-not-le, not-le-of-lt, mul-le-mul, mul-le-mul-right, mul-lt-mul-of-pos-right, lt-of-mul-lt-mul-right, le-of-mul-le-mul-right, eq-of-mul-eq-mul-right, mul-pos, mul-assoc, mul-mul-mul-comm, pow-suc, pow-le-pow-left, zero-lt-suc, div-lt-iff-lt-mul, div-mul-le-self, lt-div-mul-add, add-mul, one-mul}
 use native.Mathlib.Numerals.{add-one}
 use native.Mathlib.Omega.{arith}
 use mathlib.Core.Bool.{Bool, true, false, not, cond}
@@ -10,7 +10,7 @@ use lib.Dec.{T, leb, isLe, isEq, eqb, leb→le, nleb→lt, eqb→eq, eqb-refl, l
 use lib.Arith.{lt-of-le-ne}
 use lib.Pow.{pow-add, pow-pos, pow-mono}
 use lib.Ieee.{Format, prec, size, nearest, units}
-use lib.Ieee.Digits.{size-lt, size-le, size-reaches}
+use lib.Ieee.Digits.{size-lt, size-le}
 use lib.Ieee.Fits.{two, two-le-pos}
 use Rattle.float.specs.Root.{floorRoot, nearestRoot, Near}
 

@@ -1,9 +1,9 @@
 -- Numbers, which are the values that are no NaN: `x != x` tells them, and a comparison that holds is of two of them.
 -- Assumes nothing.
 use mathlib.Core.Path.{_≡_, refl, sym, _∙_}
-use mathlib.Core.Bool.{Bool, true, false, not}
+use mathlib.Core.Bool.{true, false, not}
 use Prim.Native.Nat.{_*_}
-use lib.Dec.{T, eqb}
+use lib.Dec.{T}
 use lib.Ieee.{Float, nan, inf, fin, up, down, lt, le, eq, ne, isNan}
 use borrow.Author.Tests.{eq-eqb}
 use Rattle.laws.specs.Truth.{no}
