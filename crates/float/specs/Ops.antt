@@ -1,7 +1,7 @@
 -- Rust's operators on `f64`, for definitions: each rounds once, by the kit's account of IEEE 754. Definitions only.
 use mathlib.Core.Bool.{Bool}
 use Prim.Native.Nat.{ℕ}
-use lib.Ieee.{Float, binary64, add, sub, mul, div, lt, le, eq, ofBits}
+use lib.Ieee.{Float, binary64, add, sub, mul, div, neg, lt, le, eq, ofBits}
 
 infixl 60 _+ᶠ_
 infixl 60 _-ᶠ_
@@ -47,7 +47,7 @@ abbrev pub 0ᶠ : Float
 0ᶠ = literal 0
 
 abbrev pub -0ᶠ : Float
--0ᶠ = literal 0x8000_0000_0000_0000
+-0ᶠ = neg 0ᶠ
 
 abbrev pub ½ᶠ : Float
 ½ᶠ = literal 0x3fe0_0000_0000_0000
