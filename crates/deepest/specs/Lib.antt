@@ -5,3 +5,5 @@ pub mod Queue
 pub mod Sift
 pub mod Deepest
 pub mod Match
+pub mod Turns
+pub mod Search

@@ -205,7 +205,7 @@ module _ (halves : List Float) where
       pick true r = (p, (a .0, a .1))
       pick false r = (a .0, r)
 
-  sum-enter : (f : Cell → ℕ) (c : Cell) (q : List Cell) → sumOver f (enter halves c q) ≡ f c + sumOver f q
+  pub sum-enter : (f : Cell → ℕ) (c : Cell) (q : List Cell) → sumOver f (enter halves c q) ≡ f c + sumOver f q
   unfolding enter sumOver
   sum-enter f c [] = refl
   sum-enter f c (e ∷ es) = pick (leaves halves c e) (sum-enter f c es)
