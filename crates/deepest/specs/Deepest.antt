@@ -100,13 +100,18 @@ module _ (piece : Piece) (halves : List Float) where
   finish precision room best over = Full
   finish precision room best (waiting q) = turns (sumOver heft q) precision room q best (length q)
 
--- the search within the bounds of the outer ring, with cells of the given side first
+-- the first best: the centre of the bounds, which never waits
+unfoldable pub centreOf : Piece → Extents → Best
+centreOf piece e =
+    let cx = (e .«min_x» +ᶠ e .«max_x») /ᶠ 2ᶠ in
+    let cy = (e .«min_y» +ᶠ e .«max_y») /ᶠ 2ᶠ in
+    record { x = cx; y = cy; d = signedClearance cx cy piece }
+
+-- the search within the bounds of the outer ring, with first cells of the given side
 unfoldable pub searchIn : Piece → Float → ℕ → Extents → Float → Deepest
 searchIn piece precision room e side =
     let halves = halvesFrom (side /ᶠ 2ᶠ) 22 in
-    let cx = (e .«min_x» +ᶠ e .«max_x») /ᶠ 2ᶠ in
-    let cy = (e .«min_y» +ᶠ e .«max_y») /ᶠ 2ᶠ in
-    finish piece halves precision room (record { x = cx; y = cy; d = signedClearance cx cy piece }) (gridFrom piece halves e side room (firstCorner e) [] 0)
+    finish piece halves precision room (centreOf piece e) (gridFrom piece halves e side room (firstCorner e) [] 0)
 
 unfoldable pub deepestPoint : ℕ → Float → Piece → Deepest
 deepestPoint room precision piece =

@@ -7,3 +7,4 @@ pub mod Deepest
 pub mod Match
 pub mod Turns
 pub mod Search
+pub mod Plant
