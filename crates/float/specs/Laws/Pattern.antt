@@ -90,8 +90,16 @@ pub pattern-number : (x : Float) → T (fits binary64 x) → Number x → T (not
 pattern-number x h n = rw (abs-pattern x h n) (no-nan (toBits binary64 (abs x)) (pattern-most x h n))
 
 -- ---- patterns are ordered as the sizes are
-of-units : ℕ → ℕ
+-- the pattern of n of the smallest value, 2 ^ -1074
+unfoldable pub of-units : ℕ → ℕ
 of-units n = (size n - 53) * 2 ^ 52 + n / 2 ^ (size n - 53)
+
+pub pattern-units : (m : ℕ) (e : ℤ) → toBits binary64 (fin false m e) ≡ of-units (m * up e * 2 ^ 1074 / down e)
+unfolding toBits of-units
+pattern-units m e =
+    let n = m * up e * 2 ^ 1074 / down e in
+    let k = size n - 53 in
+    omega arith
 
 -- either both drop as many digits, or the longer has a field that is larger by one at least
 of-units-mono : (n n' : ℕ) → n ≤ n' → of-units n ≤ of-units n'
@@ -110,11 +118,10 @@ of-units-mono n n' h =
     ]
 
 finite-le : (m : ℕ) (e : ℤ) (n : ℕ) (d : ℤ) → m * up e * down d ≤ n * up d * down e → toBits binary64 (fin false m e) ≤ toBits binary64 (fin false n d)
-unfolding toBits of-units
 finite-le m e n d h =
-    let a = m * up e * 2 ^ 1074 / down e in
-    let b = n * up d * 2 ^ 1074 / down d in
-    omega (arith, of-units-mono a b (div-mono (m * up e * 2 ^ 1074) (down e) (n * up d * 2 ^ 1074) (down d) (down-pos e) (down-pos d) (scaled (m * up e) (n * up d) (down e) (down d) (2 ^ 1074) h)))
+    rw (pattern-units m e, pattern-units n d)
+    (of-units-mono (m * up e * 2 ^ 1074 / down e) (n * up d * 2 ^ 1074 / down d)
+    (div-mono (m * up e * 2 ^ 1074) (down e) (n * up d * 2 ^ 1074) (down d) (down-pos e) (down-pos d) (scaled (m * up e) (n * up d) (down e) (down d) (2 ^ 1074) h)))
   where
     scaled : (a b c d l : ℕ) → a * d ≤ b * c → a * l * d ≤ b * l * c
     scaled a b c d l h = omega (arith, mul-le-mul-right l h)
