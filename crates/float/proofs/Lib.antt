@@ -1,9 +1,1 @@
 mod Flag
-mod Digit
-mod Pattern
-mod Residual
-mod Scaled
-mod Value
-mod Tests
-mod Casts
-mod Whole

@@ -1,6 +1,7 @@
 -- Numbers, which are the values that are no NaN: `x != x` tells them, and a comparison that holds is of two of them.
 -- Assumes nothing.
 use mathlib.Core.Path.{_≡_, refl, sym, _∙_}
+use mathlib.Core.Logic.{_⊎_, inl, inr}
 use mathlib.Core.Bool.{true, false, not}
 use Prim.Native.Nat.{_*_}
 use lib.Dec.{T}
@@ -27,6 +28,12 @@ not-nan x h = sym (ne-self x) ∙ h
 
 pub is-number : (x : Float) → ne x x ≡ false → Number x
 is-number x h = no (not-nan x h)
+
+pub nan-or : (x : Float) → (x ≡ nan) ⊎ Number x
+unfolding isNan
+nan-or nan = inl refl
+nan-or (inf s) = inr tt
+nan-or (fin s m e) = inr tt
 
 -- ---- the two values of a comparison that holds
 pub lt-number : (x y : Float) → T (lt x y) → Number x × Number y
