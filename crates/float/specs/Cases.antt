@@ -28,9 +28,9 @@ pub root-infinity : sqrt ∞ ≡ ∞
 unfolding rootOf ofBits
 root-infinity = refl
 
-pub root-least : sqrt (literal 1) ≡ literal 0x1e60_0000_0000_0000
+pub root-smallest : sqrt (literal 1) ≡ literal 0x1e60_0000_0000_0000
 unfolding rootOf ofBits
-root-least = refl
+root-smallest = refl
 
 pub root-greatest : toBits binary64 (sqrt (literal 0x7fef_ffff_ffff_ffff)) ≡ 0x5fef_ffff_ffff_ffff
 unfolding rootOf ofBits toBits
