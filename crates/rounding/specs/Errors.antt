@@ -15,8 +15,8 @@ use Rattle.rounding.specs.Value.{U, U-pos, E, H, sgn, mag, val, Num, Dig
 use Rattle.rounding.specs.Rounded.{B, Rounded, rounded, RoundedUnits, rounded-units, round-bounded}
 use Rattle.rounding.specs.Operations.{IsRound, add-is, sub-is, mul-is, div-is}
 
--- ---- a sum or a difference v, rounded
-pub record Sum (z : Float) (v : Exact) : Type 0 where
+-- ---- v units, rounded: a sum, a difference, a whole number
+pub record Rounding (z : Float) (v : Exact) : Type 0 where
   pub num : Num z
   pub near : Near E 1 0 (mag z) (abs v)
   pub close : Close E (abs v) (val z) v
@@ -40,8 +40,8 @@ close-at : (v : Exact) (t : Bool) (m w : ℕ) → v ≈ signed t w → Near E 1 
 close-at v false m w h r = let c = within E m w r in record { above = omega (arith, c, h); below = omega (arith, c, h) }
 close-at v true m w h r = let c = within E m w r in record { above = omega (arith, c, h); below = omega (arith, c, h) }
 
-sum-of : (z : Float) (v : Exact) → IsRound z v → T (finite z) → Sum z v
-sum-of z v i f =
+pub rounding : (z : Float) (v : Exact) → IsRound z v → T (finite z) → Rounding z v
+rounding z v i f =
     let s = i .sign in
     let w = i .size in
     let r : RoundedUnits z s w = subst (λ (x : Float). RoundedUnits x s w) (sym (i .is)) (rounded-units s w (subst (λ (x : Float). T (finite x)) (i .is) f)) in
@@ -55,15 +55,15 @@ sum-of z v i f =
       most = rw t (λ (b : Bool) (g : ℕ). at-most v (mag z) w (r .least) (r .most) s b g (i .value));
     }
 
-size-bound : (z : Float) (v : Exact) (i : IsRound z v) → abs v ≤ U * B → T (finite z)
+pub size-bound : (z : Float) (v : Exact) (i : IsRound z v) → abs v ≤ U * B → T (finite z)
 size-bound z v i h = subst (λ (x : Float). T (finite x)) (sym (i .is)) (round-bounded (i .sign) (i .size) U U-pos (rw (abs-of v (i .sign) (i .size) (i .value)) at h))
 
 module _ (x y : Float) (p : Num x) (q : Num y) where
-  pub add-of-finite : T (finite (x +ᶠ y)) → Sum (x +ᶠ y) (val x ⊕ val y)
-  add-of-finite f = sum-of (x +ᶠ y) (val x ⊕ val y) (add-is x y p q) f
+  pub add-of-finite : T (finite (x +ᶠ y)) → Rounding (x +ᶠ y) (val x ⊕ val y)
+  add-of-finite f = rounding (x +ᶠ y) (val x ⊕ val y) (add-is x y p q) f
 
-  pub sub-of-finite : T (finite (x -ᶠ y)) → Sum (x -ᶠ y) (val x ⊖ val y)
-  sub-of-finite f = sum-of (x -ᶠ y) (val x ⊖ val y) (sub-is x y p q) f
+  pub sub-of-finite : T (finite (x -ᶠ y)) → Rounding (x -ᶠ y) (val x ⊖ val y)
+  sub-of-finite f = rounding (x -ᶠ y) (val x ⊖ val y) (sub-is x y p q) f
 
   pub add-finite : mag x + mag y ≤ U * B → T (finite (x +ᶠ y))
   add-finite h = size-bound (x +ᶠ y) (val x ⊕ val y) (add-is x y p q) (omega (arith, h, signed-le (sgn x) (mag x), signed-le (sgn y) (mag y)))
@@ -71,10 +71,10 @@ module _ (x y : Float) (p : Num x) (q : Num y) where
   pub sub-finite : mag x + mag y ≤ U * B → T (finite (x -ᶠ y))
   sub-finite h = size-bound (x -ᶠ y) (val x ⊖ val y) (sub-is x y p q) (omega (arith, h, signed-le (sgn x) (mag x), signed-le (sgn y) (mag y)))
 
-  pub add-law : mag x + mag y ≤ U * B → Sum (x +ᶠ y) (val x ⊕ val y)
+  pub add-law : mag x + mag y ≤ U * B → Rounding (x +ᶠ y) (val x ⊕ val y)
   add-law h = add-of-finite (add-finite h)
 
-  pub sub-law : mag x + mag y ≤ U * B → Sum (x -ᶠ y) (val x ⊖ val y)
+  pub sub-law : mag x + mag y ≤ U * B → Rounding (x -ᶠ y) (val x ⊖ val y)
   sub-law h = sub-of-finite (sub-finite h)
 
 -- ---- the product

@@ -6,3 +6,9 @@ pub mod Comparison
 pub mod Rounded
 pub mod Operations
 pub mod Errors
+pub mod Monotone
+pub mod Bounds
+pub mod Whole
+pub mod Casts
+pub mod Signs
+pub mod Selection

@@ -3,7 +3,7 @@
 use mathlib.Core.Path.{_≡_, refl, sym, ap, _∙_, subst}
 use mathlib.Core.Bool.{Bool, true, false, not, _&&_}
 use Prim.Native.Nat.{ℕ, zero, suc, _+_, _-_, _*_, _/_, _%_, _^_, _≤_, _<_, zero-le}
-use native.Mathlib.Nat.{le-of-suc-le-suc, lt-of-not-le, not-le-of-lt, mul-assoc, mul-right-comm, mul-one, zero-mul, mul-div-cancel, eq-of-mul-eq-mul-right}
+use native.Mathlib.Nat.{le-of-eq, le-of-suc-le-suc, lt-of-le-of-lt, lt-of-lt-of-le, lt-of-not-le, not-le-of-lt, lt-of-mul-lt-mul-right, mul-lt-mul-of-pos-right, mul-pos, mul-assoc, mul-comm, mul-right-comm, mul-one, zero-mul, mul-div-cancel, eq-of-mul-eq-mul-right}
 use native.Mathlib.Omega.{arith}
 use lib.IntN.{ℤ, pos, negsuc}
 use lib.Dec.{T, ltb, eqb, leb, ltb→lt, leb→le, lit<}
@@ -12,7 +12,7 @@ use lib.Ieee.{Float, nan, inf, fin, binary64, prec, emax, low, up, down, neg, fi
 use lib.Ieee.Digits.{back}
 use lib.Ieee.Fits.{down-pos, and-l, and-r, neg-fits}
 use lib.Ieee.Exact.{HasValue}
-use lib.Ieee.Scale.{finite}
+use lib.Ieee.Scale.{overflow, finite}
 use Rattle.rounding.specs.Signed.{Exact, signed, opp}
 
 -- 1 is U units. It stays shut, since `omega` reads no numeral of 40 digits
@@ -134,6 +134,12 @@ held s (suc m) e h =
     let f = middle (eqb (suc m % 2) 1) (ltb (suc m) (2 ^ prec binary64)) (leb (down e) (2 ^ low binary64)) (ltb (suc m * up e) (2 ^ suc (emax binary64) * down e)) h in
     held-at s (suc m) e (ltb→lt (suc m) E (f .0)) (units (suc m) e (low binary64) (leb→le (down e) (2 ^ low binary64) (f .1)))
 
+pub significand : (s : Bool) (m : ℕ) (e : ℤ) → T (fits binary64 (fin s m e)) → m < E
+unfolding fits
+significand s zero e h = lit< tt
+significand s (suc m) e h =
+    ltb→lt (suc m) E (middle (eqb (suc m % 2) 1) (ltb (suc m) (2 ^ prec binary64)) (leb (down e) (2 ^ low binary64)) (ltb (suc m * up e) (2 ^ suc (emax binary64) * down e)) h .0)
+
 pub own : (x : Float) → Num x → HasValue x (sgn x) (mag x) U
 unfolding sgn
 own nan h = absurd (h .fine)
@@ -144,6 +150,26 @@ pub digits : (x : Float) → Num x → Digits (mag x)
 digits nan h = absurd (h .fine)
 digits (inf t) h = absurd (h .fine)
 digits (fin t m e) h = held t m e (h .fit) .digits
+
+-- it is below 2 ^ 1024
+under : (s : Bool) (m : ℕ) (e : ℤ) → T (fits binary64 (fin s m e)) → HasValue (fin s m e) s (mag (fin s m e)) U → mag (fin s m e) < overflow binary64
+unfolding fits U
+under s zero e h v = lt-of-mul-lt-mul-right (down e) (lt-of-le-of-lt (le-of-eq (sym (v .1) ∙ ap (λ (z : ℕ). z * U) (zero-mul (up e)) ∙ zero-mul U)) (mul-pos (pow-pos (low binary64 + suc (emax binary64))) (down-pos e)))
+under s (suc m) e h v =
+    let l = ltb→lt (suc m * up e) (2 ^ suc (emax binary64) * down e) (last (eqb (suc m % 2) 1) (ltb (suc m) (2 ^ prec binary64)) (leb (down e) (2 ^ low binary64)) (ltb (suc m * up e) (2 ^ suc (emax binary64) * down e)) h) in
+    lt-of-mul-lt-mul-right (down e)
+    (lt-of-le-of-lt (le-of-eq (sym (v .1))) (lt-of-lt-of-le (mul-lt-mul-of-pos-right l U-pos) (le-of-eq (mul-right-comm (2 ^ suc (emax binary64)) (down e) U ∙ ap (λ (z : ℕ). z * down e) (mul-comm (2 ^ suc (emax binary64)) U)))))
+  where
+    last : (a b c d : Bool) → T (a && b && c && d) → T d
+    last true true true d h = h
+    last true true false d h = absurd h
+    last true false c d h = absurd h
+    last false b c d h = absurd h
+
+pub mag-under : (x : Float) → Num x → mag x < overflow binary64
+mag-under nan h = absurd (h .fine)
+mag-under (inf t) h = absurd (h .fine)
+mag-under (fin t m e) h = under t m e (h .fit) (held t m e (h .fit) .value)
 
 -- x is a / c: its units
 pub value-mag : (x : Float) (s : Bool) (a c : ℕ) → Num x → HasValue x s a c → mag x * c ≡ a * U
