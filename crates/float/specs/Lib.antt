@@ -3,3 +3,4 @@ pub mod Root
 pub mod Order
 pub mod Whole
 pub mod Total
+pub mod Laws

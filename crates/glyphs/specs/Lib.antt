@@ -1,1 +1,5 @@
 pub mod Apportion
+pub mod Halton
+pub mod Hash
+pub mod Quotas
+pub mod Stream

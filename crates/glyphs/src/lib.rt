@@ -1,1 +1,4 @@
-// glyphs.rs: hash, stream, radical inverse and quotas.
+// glyphs.rs and the random stream: hash, stream, radical inverse and quotas.
+pub mod halton;
+pub mod hash;
+pub mod stream;

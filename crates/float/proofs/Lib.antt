@@ -1,0 +1,6 @@
+mod Digit
+mod Pattern
+mod Residual
+mod Scaled
+mod Value
+mod Tests

@@ -1,0 +1,4 @@
+pub mod Nan
+pub mod Pattern
+pub mod Fits
+pub mod Floor
