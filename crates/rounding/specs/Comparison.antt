@@ -1,7 +1,8 @@
 -- `lt`, `le` and `eq` of finite f64s are the order of their exact values, both ways; and what lies between two finite values is finite.
 -- Rests on `Value`: the two numbers over one denominator.
 use mathlib.Core.Path.{_≡_, refl, sym, ap, _∙_, subst}
-use mathlib.Core.Bool.{Bool, true, false, not, _&&_, _||_}
+use mathlib.Core.Logic.{inl, inr}
+use mathlib.Core.Bool.{Bool, true, false, not, _||_}
 use Prim.Native.Nat.{ℕ, zero, suc, _+_, _*_, _≤_, _<_}
 use native.Mathlib.Nat.{le-of-eq, le-of-mul-le-mul-right, mul-le-mul-right, mul-pos, lt-of-not-le, not-le-of-lt, eq-of-mul-eq-mul-right}
 use native.Mathlib.Omega.{arith}
@@ -9,6 +10,7 @@ use lib.Dec.{T, eqb, ltb→lt, nltb→le, eqb→eq, T-not}
 use lib.Ieee.{Float, nan, inf, fin, up, down, below, level, lt, eq, le}
 use lib.Ieee.Fits.{down-pos, and-l, and-r, and-i, eq→eqb}
 use lib.Ieee.Scale.{finite}
+use Rattle.laws.specs.Truth.{or-split}
 use Rattle.rounding.specs.Signed.{Exact, signed, _≈_, _≼_, _≺_}
 use Rattle.rounding.specs.Value.{U, U-pos, sgn, mag, val, Num, own}
 
@@ -96,10 +98,6 @@ by-no : (b : Bool) → (T (not b) → ⊥) → T b
 by-no true h = tt
 by-no false h = absurd (h tt)
 
-or-cases : {X : Type 0} (x y : Bool) → T (x || y) → (T x → X) → (T y → X) → X
-or-cases true y h f g = f tt
-or-cases false y h f g = g h
-
 nor : (x y : Bool) → T (not (x || y)) → T (not x) × T (not y)
 nor true y h = absurd h
 nor false y h = (tt, h)
@@ -122,7 +120,7 @@ module _ (x y : Float) (p : Num x) (q : Num y) where
 
   pub le→≼ : T (le x y) → val x ≼ val y
   unfolding le
-  le→≼ h = or-cases (lt x y) (eq x y) h (λ (l : T (lt x y)). omega (arith, lt→≺ l)) (λ (e : T (eq x y)). omega (arith, eq→≈ e))
+  le→≼ h = elim (or-split (lt x y) (eq x y) h) [ inl l ↦ omega (arith, lt→≺ l) | inr e ↦ omega (arith, eq→≈ e) ]
 
   pub ¬le→≺ : T (not (le x y)) → val y ≺ val x
   unfolding le

@@ -12,3 +12,5 @@ pub mod Whole
 pub mod Casts
 pub mod Signs
 pub mod Selection
+pub mod Root
+pub mod Sqrt

@@ -1,32 +1,16 @@
 -- How far `round` goes: in units of the format's smallest value it takes n / den to a whole number of units, off by a 2 ^ -prec-th of either and, where digits below a unit are lost, half a unit.
 -- Rests on the kit's account of `round` (`kept`, `drop`, `closest`).
 use mathlib.Core.Path.{_≡_, refl, sym, ap, _∙_, subst}
-use mathlib.Core.Bool.{not}
 use Prim.Native.Nat.{ℕ, zero, suc, _+_, _-_, _*_, _/_, _%_, _^_, _≤_, _<_, compare, Ordering, Ordering·lt, Ordering·eq, Ordering·gt}
 use native.Mathlib.Nat.{le-trans, le-of-eq, mul-assoc, mul-comm, mul-pos, mul-le-mul-right, le-of-mul-le-mul-right, le-div-iff-mul-le, div-add-mod', mod-lt}
 use native.Mathlib.Omega.{arith}
-use lib.Dec.{T, isLe, isEq, eqb, leb→le, nleb→lt, eqb→eq, eqb-refl}
-use lib.Arith.{lt-of-le-ne}
 use lib.Pow.{pow-add, pow-pos}
 use lib.Ieee.{size, nearest}
 use lib.Ieee.Digits.{size-reaches}
 use lib.Ieee.Nearest.{closest, nearest-ge}
 use lib.Ieee.Order.{drop, kept}
+use Rattle.laws.specs.Orders.{Says, says}
 use Rattle.rounding.specs.Relative.{Near}
-
--- what `compare` says
-abbrev pub Compared : Ordering → ℕ → ℕ → Type 0
-Compared Ordering·lt a b = a < b
-Compared Ordering·eq a b = a ≡ b
-Compared Ordering·gt a b = b < a
-
-pub compared : (a b : ℕ) → Compared (compare a b) a b
-compared a b = go (compare a b) (leb→le a b) (nleb→lt a b) (eqb→eq a b) (λ (e : a ≡ b). subst (λ (x : ℕ). T (eqb a x)) e (eqb-refl a))
-  where
-    go : (o : Ordering) → (T (isLe o) → a ≤ b) → (T (not (isLe o)) → b < a) → (T (isEq o) → a ≡ b) → (a ≡ b → T (isEq o)) → Compared o a b
-    go Ordering·lt h k e n = lt-of-le-ne (h tt) n
-    go Ordering·eq h k e n = e tt
-    go Ordering·gt h k e n = k tt
 
 -- ---- the nearest whole number: at most half of the divisor away
 record Half (a b e : ℕ) : Type 0 where
@@ -38,7 +22,7 @@ tie w r u zero h e l = omega arith
 tie w r u (suc zero) h e l = omega arith
 tie w r u (suc (suc j)) h e l = absurd (omega arith)
 
-half-at : (o : Ordering) (w r u : ℕ) → Compared o (r * 2) u → r < u → Half (nearest w o * u * 2) ((w * u + r) * 2) u
+half-at : (o : Ordering) (w r u : ℕ) → Says (r * 2) u o → r < u → Half (nearest w o * u * 2) ((w * u + r) * 2) u
 half-at Ordering·lt w r u c l = omega arith
 half-at Ordering·eq w r u c l = tie w r u (w % 2) (omega arith) c l
 half-at Ordering·gt w r u c l = omega arith
@@ -46,7 +30,7 @@ half-at Ordering·gt w r u c l = omega arith
 half : (n u : ℕ) → 0 < u → Half (closest n u * u * 2) (n * 2) u
 half n u h =
     subst (λ (x : ℕ). Half (closest n u * u * 2) (x * 2) u) (div-add-mod' n u)
-    (half-at (compare (n % u * 2) u) (n / u) (n % u) u (compared (n % u * 2) u) (mod-lt n h))
+    (half-at (compare (n % u * 2) u) (n / u) (n % u) u (says (n % u * 2) u) (mod-lt n h))
 
 -- ---- from half a step to the error in proportion. The result is q steps of K units; h is the least q of full length, and 2 * h stands for 2 ^ prec
 no-drop : (h q n den : ℕ) → Half (q * (den * 1) * 2) (n * 2) (den * 1) → Near (h * 2) 1 (den * h) (q * 1 * den) n

@@ -13,6 +13,7 @@ use lib.Ieee.Fits.{round-is, round-fits}
 use lib.Ieee.Exact.{HasValue, units-val, round-exact}
 use lib.Ieee.Order.{drop, kept, round-mono}
 use lib.Ieee.Scale.{grid, overflow, finite}
+use Rattle.laws.specs.Orders.{lt-or-le}
 use Rattle.rounding.specs.Signed.{signed}
 use Rattle.rounding.specs.Relative.{Near}
 use Rattle.rounding.specs.Nearest.{rounds, rounds-whole}
@@ -131,13 +132,6 @@ pub record Rounded (z : Float) (s : Bool) (n den : ℕ) : Type 0 where
   pub least : (g : ℕ) → Digits g → g * den ≤ n → g ≤ mag z
   pub most : (g : ℕ) → Digits g → n ≤ g * den → mag z ≤ g
 
-either : (a b : ℕ) → (a < b) ⊎ (b ≤ a)
-either a b = go (ltb a b) (ltb→lt a b) (nltb→le a b)
-  where
-    go : (x : Bool) → (T x → a < b) → (T (not x) → b ≤ a) → (a < b) ⊎ (b ≤ a)
-    go true f g = inl (f tt)
-    go false f g = inr (g tt)
-
 pub rounded : (s : Bool) (num den : ℕ) → 0 < den → T (finite (round binary64 s num den)) → Rounded (round binary64 s num den) s (num * U) den
 unfolding U
 rounded s num den d0 f =
@@ -151,7 +145,7 @@ rounded s num den d0 f =
       least = λ g d h.
           let o = ordered false s g U num den U-pos d0 h f in
           subst (λ (w : ℕ). w ≤ mag z) (kept-exact false g d (under-overflow g (o .fine)) .size) (o .size);
-      most = λ g d h. elim (either g (overflow binary64)) [
+      most = λ g d h. elim (lt-or-le g (overflow binary64)) [
         | inl l ↦ let k = kept-exact false g d l in subst (λ (w : ℕ). mag z ≤ w) (k .size) (round-mag s false num den g U d0 U-pos h (k .num .fine))
         | inr l ↦ le-trans (le-of-eq (m .size)) (le-trans (le-of-lt u) l)
       ];
