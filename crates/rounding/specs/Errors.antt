@@ -10,7 +10,7 @@ use lib.Ieee.{Float, binary64, round, unlike}
 use lib.Ieee.Scale.{finite}
 use Rattle.float.specs.Ops.{_+ᶠ_, _-ᶠ_, _*ᶠ_, _/ᶠ_}
 use Rattle.rounding.specs.Signed.{Exact, signed, _⊕_, _⊖_, _≈_, _≼_, abs, abs-of, signed-le}
-use Rattle.rounding.specs.Relative.{Near, within, Close}
+use Rattle.rounding.specs.Relative.{Near, Close, close-signed}
 use Rattle.rounding.specs.Value.{U, U-pos, E, H, sgn, mag, val, Num, Digits, digits-zero}
 use Rattle.rounding.specs.Rounded.{B, Rounded, rounded, RoundedUnits, rounded-units, round-bounded}
 use Rattle.rounding.specs.Operations.{IsRound, add-is, sub-is, mul-is, div-is}
@@ -37,8 +37,7 @@ module _ (v : Exact) (m w : ℕ) (least : (g : ℕ) → Digits g → g ≤ w →
   at-most true true g e d h = omega (arith, least g d (omega arith))
 
 close-at : (v : Exact) (t : Bool) (m w : ℕ) → v ≈ signed t w → Near E 1 0 m w → Close E w (signed t m) v
-close-at v false m w h r = let c = within E m w r in record { above = omega (arith, c, h); below = omega (arith, c, h) }
-close-at v true m w h r = let c = within E m w r in record { above = omega (arith, c, h); below = omega (arith, c, h) }
+close-at v t m w h r = let c = close-signed E 0 m w t r in record { above = omega (arith, c .above, h); below = omega (arith, c .below, h) }
 
 pub rounding : (z : Float) (v : Exact) → IsRound z v → T (finite z) → Rounding z v
 rounding z v i f =

@@ -14,3 +14,7 @@ pub mod Signs
 pub mod Selection
 pub mod Root
 pub mod Sqrt
+pub mod Exactness
+pub mod Distance
+pub mod Spacing
+pub mod Cells

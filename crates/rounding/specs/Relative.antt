@@ -1,10 +1,11 @@
 -- Errors in proportion, and how they chain: `Near E k e a b` says that a and b agree but for k / E of either and e / E. E is 2 ^ 53 at every use.
 -- Rests on nothing.
 use mathlib.Core.Path.{_≡_}
+use mathlib.Core.Bool.{Bool, true, false}
 use Prim.Native.Nat.{ℕ, zero, suc, _+_, _-_, _*_, _≤_, _<_}
 use native.Mathlib.Nat.{mul-le-mul-right, mul-le-mul-left, mul-le-mul, le-of-mul-le-mul-right, le-of-suc-le-suc, lt-of-not-le}
 use native.Mathlib.Omega.{arith}
-use Rattle.rounding.specs.Signed.{Exact, abs, abs-scale}
+use Rattle.rounding.specs.Signed.{Exact, signed, abs, abs-scale}
 
 -- a ≤ b * (1 + k / E) + e / E
 abbrev pub Under : ℕ → ℕ → ℕ → ℕ → ℕ → Type 0
@@ -39,13 +40,13 @@ module _ (E : ℕ) (pos : 0 < E) where
       le-of-mul-le-mul-right (omega (arith, mul-le-mul q q, mul-le-mul-left (b * b) kE)) pos
 
 -- an error in proportion to either is one in proportion to b
-pub within : (E a b : ℕ) → Near E 1 0 a b → (a * E ≤ b * E + b) × (b * E ≤ a * E + b)
-within E a b r = (
+pub within : (E e a b : ℕ) → Near E 1 e a b → (a * E ≤ b * E + b + e) × (b * E ≤ a * E + b + e)
+within E e a b r = (
   omega (arith, r .above),
-  le-of-suc-le-suc (lt-of-not-le (λ (h : a * E + b < b * E). absurd (omega (arith, r .below, h, mul-le-mul-right E (smaller h))))),
+  le-of-suc-le-suc (lt-of-not-le (λ (h : a * E + b + e < b * E). absurd (omega (arith, r .below, h, mul-le-mul-right E (smaller h))))),
 )
   where
-    smaller : a * E + b < b * E → b ≤ a
+    smaller : a * E + b + e < b * E → b ≤ a
     smaller h = omega (arith, r .below, h)
 
 -- ---- signed numbers: a and b are e / E apart at most
@@ -62,3 +63,8 @@ close-wider E e f a b h p = record { above = omega (arith, p .above); below = om
 -- the sizes are as close
 pub close-abs : (E e : ℕ) (a b : Exact) → Close E e a b → (abs a * E ≤ abs b * E + e) × (abs b * E ≤ abs a * E + e)
 close-abs E e a b p = (omega (arith, p, abs-scale a E, abs-scale b E), omega (arith, p, abs-scale a E, abs-scale b E))
+
+-- and numbers of one sign as their sizes
+pub close-signed : (E e a b : ℕ) (s : Bool) → Near E 1 e a b → Close E (b + e) (signed s a) (signed s b)
+close-signed E e a b false r = let c = within E e a b r in record { above = omega (arith, c); below = omega (arith, c) }
+close-signed E e a b true r = let c = within E e a b r in record { above = omega (arith, c); below = omega (arith, c) }

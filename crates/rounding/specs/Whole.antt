@@ -6,7 +6,8 @@ use Prim.Native.Nat.{ℕ, zero, suc, _+_, _-_, _*_, _/_, _%_, _^_, _≤_, _<_, m
 use native.Mathlib.Nat.{le-of-suc-le-suc, le-trans, le-of-eq, le-of-lt, lt-of-le-of-lt, mul-one, one-mul, mul-comm, mul-assoc, mul-right-comm, mul-le-mul-right, mul-le-mul-left, mul-div-cancel, div-one, eq-of-mul-eq-mul-right, le-of-mul-le-mul-right, lt-of-mul-lt-mul-right, mul-lt-mul-of-pos-right, div-mul-le-self, lt-div-mul-add, div-le-self, div-lt-iff-lt-mul, min-eq-left, add-sub-cancel}
 use native.Mathlib.Omega.{arith}
 use lib.IntN.{ℤ, pos, negsuc, negℤ, natAbs}
-use lib.Dec.{T, ltb, leb, eqb, lit<, lit≤}
+use lib.Dec.{T, leb→le, ltb→lt, lit<}
+use lib.Signed.{leZ, ltZ}
 use lib.Pow.{pow-add, pow-pos}
 use lib.Ieee.{Float, nan, inf, fin, binary64, up, down, low, neg, round, ofInt, toSigned, toUnsigned, fits}
 use lib.Ieee.Fits.{down-pos}
@@ -22,6 +23,18 @@ use Rattle.rounding.specs.Errors.{Rounding, rounding, size-bound}
 abbrev pub int : ℤ → Exact
 int (pos n) = nat n
 int (negsuc n) = record { p = 0; n = suc n }
+
+pub int-le : (a b : ℤ) → T (leZ a b) → int a ≼ int b
+int-le (pos m) (pos n) h = omega (arith, leb→le m n h)
+int-le (pos m) (negsuc n) h = absurd h
+int-le (negsuc m) (pos n) h = omega arith
+int-le (negsuc m) (negsuc n) h = omega (arith, leb→le n m h)
+
+pub int-lt : (a b : ℤ) → T (ltZ a b) → int a ≺ int b
+int-lt (pos m) (pos n) h = omega (arith, ltb→lt m n h)
+int-lt (pos m) (negsuc n) h = absurd h
+int-lt (negsuc m) (pos n) h = omega arith
+int-lt (negsuc m) (negsuc n) h = omega (arith, ltb→lt n m h)
 
 -- z whole ones, in units
 abbrev pub ones : ℤ → Exact
