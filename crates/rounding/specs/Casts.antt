@@ -11,7 +11,7 @@ use lib.Ieee.{Float, nan, inf, fin, binary64, up, down, neg, toSigned, toUnsigne
 use lib.Ieee.Fits.{down-pos}
 use lib.Ieee.Scale.{finite}
 use Rattle.float.specs.Whole.{floor, ceil, as-i64, as-usize}
-use Rattle.rounding.specs.Signed.{Exact, signed, nat, opp, plain, _⊕_, _⊗_, _≈_, _≼_, _≺_}
+use Rattle.rounding.specs.Signed.{Exact, signed, scaled, nat, opp, plain, _⊕_, _⊗_, _≈_, _≼_, _≺_}
 use Rattle.rounding.specs.Value.{U, U-pos, sgn, mag, val, Num, own, neg-num, neg-mag, neg-val}
 use Rattle.rounding.specs.Whole.{int, ones, floor-law}
 
@@ -72,10 +72,6 @@ near-size false false m n u a b = omega arith
 near-size false true m n u a b = omega (arith, a, b)
 near-size true false m n u a b = omega arith
 near-size true true m n u a b = omega arith
-
-scaled : (a : Exact) (s : Bool) (n u : ℕ) → a ≈ signed s n → a ⊗ nat u ≈ signed s (n * u)
-scaled a false n u h = omega (arith, ap (λ (z : ℕ). z * u) h)
-scaled a true n u h = omega (arith, ap (λ (z : ℕ). z * u) h)
 
 -- x is a whole number: the integer is x
 pub i64-whole : (x : Float) (n : ℕ) → Num x → mag x ≡ n * U → n < half → ones (as-i64 x) ≈ val x

@@ -16,10 +16,9 @@ use Rattle.rounding.specs.Relative.{Near, Close, close-wider, close-sign
 use Rattle.rounding.specs.Value.{U, U-pos, E, H, sgn, mag, val, Num}
 use Rattle.rounding.specs.Errors.{Rounding, sub-of-finite, Quotient, div-of-finite}
 use Rattle.rounding.specs.Bounds.{Sized, sub-sized, div-sized}
-use Rattle.rounding.specs.Signs.{Nonneg}
 use Rattle.rounding.specs.Whole.{int, ones}
 use Rattle.rounding.specs.Casts.{IsFloor, floor-i64}
-use Rattle.rounding.specs.Distance.{tiny, tiny-is, tiny-big, gap, gap-of, gap-sym, Spaced, spaced-across, spaced-along}
+use Rattle.rounding.specs.Distance.{Length, length-above, length-plus, tiny, tiny-is, tiny-big, gap, gap-of, gap-sym, Spaced, spaced-across, spaced-along}
 
 abbrev pub ratio : Float → Float → Float → Float
 ratio x min cell = (x -ᶠ min) /ᶠ cell
@@ -27,19 +26,6 @@ ratio x min cell = (x -ᶠ min) /ᶠ cell
 -- the number of the cell that x lies in
 abbrev pub cellOf : Float → Float → Float → ℤ
 cellOf x min cell = as-i64 (floor (ratio x min cell))
-
--- a length from 2 ^ -20 to 65,536
-pub record Side (s : Float) : Type 0 where
-  pub sized : Sized s 65536
-  pub nonneg : Nonneg s
-  pub least : U ≤ mag s * 1048576
-
-pub side-above : {s : Float} → Side s → 0 < mag s
-side-above {s} d = above (mag s) U U-pos (d .least)
-  where
-    above : (m u : ℕ) → 0 < u → u ≤ m * 1048576 → 0 < m
-    above zero u u0 h = absurd (omega (arith, u0, h))
-    above (suc m) u u0 h = omega arith
 
 -- ---- numbers only: places X and X', M the least of them; computed differences A and A'; computed quotients Q and Q' by C. e stands for E, u for U, t for 2 ^ -30
 quotients : (e u C k ap an bp bn qp qn rp rn : ℕ) → 0 < u → qp + u + rn ≤ rp + qn → ap * u * e + qn * C * e ≤ qp * C * e + an * u * e + u * k → rp * C * e + bn * u * e ≤ bp * u * e + rn * C * e + u * k
@@ -58,10 +44,6 @@ unlike-plus : (s : Bool) → unlike s false ≡ s
 unlike-plus true = refl
 unlike-plus false = refl
 
-positive : (s : Bool) (m : ℕ) → 0 < m → nat 0 ≼ signed s m → s ≡ false
-positive false m m0 h = refl
-positive true m m0 h = absurd (omega (arith, m0, h))
-
 -- sizes times c and u, with one sign
 signed-close : (e k m c n u : ℕ) (s t : Bool) → s ≡ t → Close e k (signed s (m * c)) (signed s (n * u)) → Close e k (signed s m ⊗ nat c) (signed t n ⊗ nat u)
 signed-close e k m c n u s t q h = subst (λ (b : Bool). Close e k (signed s m ⊗ nat c) (signed b n ⊗ nat u)) q (go s h)
@@ -76,15 +58,15 @@ record In (x min cell : Float) : Type 0 where
   quot : Close E (U * (131072 * U + 65536 * H)) (val (ratio x min cell) ⊗ nat (mag cell)) (val (x -ᶠ min) ⊗ nat U)
   diff : Close E (131072 * U) (val (x -ᶠ min)) (val x ⊖ val min)
 
-located : (x min cell : Float) → Sized x 65536 → Sized min 65536 → Side cell → In x min cell
+located : (x min cell : Float) → Sized x 65536 → Sized min 65536 → Length cell → In x min cell
 located x min cell X M c =
     let D = x -ᶠ min in
     let Q = ratio x min cell in
     let d = sub-sized X M (lit< tt) in
     let q = div-sized d (c .sized) 1048576 (c .least) (lit< tt) in
     let r = sub-of-finite x min (X .num) (M .num) (d .num .fine) in
-    let w = div-of-finite D cell (d .num) (c .sized .num) (side-above c) (q .num .fine) in
-    let sign : sgn Q ≡ sgn D = w .sign ∙ ap (λ (t : Bool). unlike (sgn D) t) (positive (sgn cell) (mag cell) (side-above c) (c .nonneg)) ∙ unlike-plus (sgn D) in
+    let w = div-of-finite D cell (d .num) (c .sized .num) (length-above c) (q .num .fine) in
+    let sign : sgn Q ≡ sgn D = w .sign ∙ ap (λ (t : Bool). unlike (sgn D) t) (length-plus c) ∙ unlike-plus (sgn D) in
     record {
       floor = floor-i64 Q 137438953472 (q .num) (q .size) (lit< tt);
       quot = close-wider E (mag D * U + mag cell * H) (U * (131072 * U + 65536 * H)) (val Q ⊗ nat (mag cell)) (val D ⊗ nat U) (room (mag D) (mag cell) U (d .size) (c .sized .size)) (signed-close E (mag D * U + mag cell * H) (mag Q) (mag cell) (mag D) U (sgn Q) (sgn D) sign (close-signed E (mag cell * H) (mag Q * mag cell) (mag D * U) (sgn Q) (w .near)));
@@ -94,7 +76,7 @@ located x min cell X M c =
     room : (d c u : ℕ) → d ≤ 131072 * u → c ≤ 65536 * u → d * u + c * H ≤ u * (131072 * u + 65536 * H)
     room d c u a b = omega (arith, mul-le-mul-right u a, mul-le-mul-right H b)
 
-pub cells-apart : (x x' min cell : Float) → Sized x 65536 → Sized x' 65536 → Sized min 65536 → Side cell
+pub cells-apart : (x x' min cell : Float) → Sized x 65536 → Sized x' 65536 → Sized min 65536 → Length cell
     → int (cellOf x min cell) ⊕ nat 2 ≼ int (cellOf x' min cell) → val x ⊕ nat (mag cell) ≼ val x' ⊕ nat tiny
 cells-apart x x' min cell X X' M c h =
     let P = located x min cell X M c in
@@ -110,12 +92,12 @@ cells-apart x x' min cell X X' M c h =
 unfoldable pub TwoApart : ℤ → ℤ → Type 0
 TwoApart a b = (int a ⊕ nat 2 ≼ int b) ⊎ (int b ⊕ nat 2 ≼ int a)
 
-cells-gap : (x x' min cell : Float) → Sized x 65536 → Sized x' 65536 → Sized min 65536 → Side cell → TwoApart (cellOf x min cell) (cellOf x' min cell) → mag cell ≤ gap x x' + tiny
+cells-gap : (x x' min cell : Float) → Sized x 65536 → Sized x' 65536 → Sized min 65536 → Length cell → TwoApart (cellOf x min cell) (cellOf x' min cell) → mag cell ≤ gap x x' + tiny
 unfolding TwoApart
 cells-gap x x' min cell X X' M c (inl h) = gap-of x x' (mag cell) tiny (cells-apart x x' min cell X X' M c h)
 cells-gap x x' min cell X X' M c (inr h) = rw (gap-sym x x') (gap-of x' x (mag cell) tiny (cells-apart x' x min cell X' X M c h))
 
-module _ (cell x y x' y' : Float) (c : Side cell) (X : Sized x 65536) (Y : Sized y 65536) (X' : Sized x' 65536) (Y' : Sized y' 65536) where
+module _ (cell x y x' y' : Float) (c : Length cell) (X : Sized x 65536) (Y : Sized y 65536) (X' : Sized x' 65536) (Y' : Sized y' 65536) where
   pub cells-across : (min : Float) → Sized min 65536 → TwoApart (cellOf x min cell) (cellOf x' min cell) → Spaced cell x y x' y'
   cells-across min M h = spaced-across cell x y x' y' (cells-gap x x' min cell X X' M c h)
 

@@ -11,7 +11,9 @@ use lib.Ieee.{Float}
 use Rattle.laws.specs.Orders.{lt-or-le}
 use Rattle.float.specs.Laws.Floor.{root-lt}
 use Rattle.rounding.specs.Signed.{Exact, signed, signed-le, nat, apart, _⊕_, _⊖_, _≼_}
-use Rattle.rounding.specs.Value.{U, sgn, mag, val}
+use Rattle.rounding.specs.Value.{U, U-pos, sgn, mag, val}
+use Rattle.rounding.specs.Bounds.{Sized}
+use Rattle.rounding.specs.Signs.{Nonneg, positive}
 
 -- 2 ^ -30, in units
 unfoldable pub tiny : ℕ
@@ -25,6 +27,14 @@ pub tiny-big : 1099511627776 ≤ tiny
 unfolding tiny
 tiny-big = lit≤ tt
 
+-- half of it
+unfoldable pub half : ℕ
+half = 2 ^ 1043
+
+pub half-is : half * 2 ≡ tiny
+unfolding half tiny
+half-is = refl
+
 -- the exact distance of two numbers on a line, in units
 unfoldable pub gap : Float → Float → ℕ
 gap x x' = apart (val x) (val x')
@@ -37,6 +47,22 @@ distance² x y x' y' = gap x x' * gap x x' + gap y y' * gap y y'
 -- the exact distance of (x, y) and (x', y') is s less 2 ^ -30 at least: by squares, and where s is not above 2 ^ -30 every pair passes
 pub record Spaced (s x y x' y' : Float) : Type 0 where
   pub far : (mag s - tiny) * (mag s - tiny) ≤ distance² x y x' y'
+
+-- a length from 2 ^ -20 to 65,536, as the spacing of every accepted job is (to 34,816)
+pub record Length (s : Float) : Type 0 where
+  pub sized : Sized s 65536
+  pub nonneg : Nonneg s
+  pub least : U ≤ mag s * 1048576
+
+pub length-above : {s : Float} → Length s → 0 < mag s
+length-above {s} d = above (mag s) U U-pos (d .least)
+  where
+    above : (m u : ℕ) → 0 < u → u ≤ m * 1048576 → 0 < m
+    above zero u u0 h = absurd (omega (arith, u0, h))
+    above (suc m) u u0 h = omega arith
+
+pub length-plus : {s : Float} → Length s → sgn s ≡ false
+length-plus {s} d = positive s (length-above d) (d .nonneg)
 
 -- ---- distances on a line
 pub gap-sym : (x x' : Float) → gap x x' ≡ gap x' x
@@ -63,10 +89,6 @@ short-by t e f a b r X Y h p q k =
     let x : X < t = root-lt (omega (arith, g)) in
     let y : Y < t = root-lt (omega (arith, g)) in
     absurd (omega (arith, g, h, mul-le-mul p p, mul-le-mul q q, mul-le-mul k k, mul-le-mul-right e (le-of-lt x), mul-le-mul-right f (le-of-lt y)))))
-
--- S less d, where that is above 0, and d are S
-pub less : (S d : ℕ) → d ≤ S → (S - d) + d ≡ S
-less S d h = omega arith
 
 module _ (s x y x' y' : Float) where
   pub spaced-sym : Spaced s x y x' y' → Spaced s x' y' x y

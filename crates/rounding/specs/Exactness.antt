@@ -6,16 +6,16 @@ use mathlib.Core.Bool.{Bool, true, false, not}
 use Prim.Native.Nat.{ℕ, zero, suc, _+_, _-_, _*_, _^_, _≤_, _<_}
 use native.Mathlib.Nat.{le-trans, le-of-eq, le-of-lt, le-antisymm, le-dest, le-of-mul-le-mul-right, lt-of-le-of-lt, add-mul, one-mul, mul-assoc, mul-le-mul, mul-le-mul-right, mul-mul-mul-comm}
 use native.Mathlib.Omega.{arith}
-use lib.IntN.{ℤ, pos, negsuc, natAbs}
+use lib.IntN.{ℤ, natAbs}
 use lib.Pow.{pow-add, pow-pos, pow-mono}
 use lib.Ieee.{Float, binary64, low, ofInt}
 use Rattle.float.specs.Ops.{_+ᶠ_, _-ᶠ_, _*ᶠ_, _/ᶠ_}
 use Rattle.laws.specs.Orders.{lt-or-le}
-use Rattle.rounding.specs.Signed.{Exact, signed, _⊕_, _⊖_, _≈_}
+use Rattle.rounding.specs.Signed.{Exact, signed, same-size, _⊕_, _⊖_, _≈_}
 use Rattle.rounding.specs.Value.{U, U-is, U-pos, E, sgn, mag, val, Num, Digits, digits-at}
 use Rattle.rounding.specs.Rounded.{B}
 use Rattle.rounding.specs.Errors.{Rounding, add-law, sub-law, mul-law, div-law}
-use Rattle.rounding.specs.Whole.{ones, ofInt-exact}
+use Rattle.rounding.specs.Whole.{ofInt-exact}
 
 -- x is c times 2 ^ j units in size
 pub record Multiple (x : Float) (j c : ℕ) : Type 0 where
@@ -51,12 +51,6 @@ pub record Sum (z : Float) (v : Exact) (j k : ℕ) : Type 0 where
   pub count : ℕ
   pub few : count ≤ k
   pub multiple : Multiple z j count
-
-same-size : (s t : Bool) (m n : ℕ) → signed s m ≈ signed t n → m ≡ n
-same-size false false m n h = omega arith
-same-size false true m n h = omega arith
-same-size true false m n h = omega arith
-same-size true true m n h = omega arith
 
 exact-sum : (z : Float) (v : Exact) (j k : ℕ) → Rounding z v → Counted v (2 ^ j) k → k < E → Sum z v j k
 exact-sum z v j k r c h =
@@ -108,10 +102,4 @@ module _ {x y : Float} {i j a b : ℕ} (k : ℕ) (p : Multiple x i a) (q : Multi
 
 -- ---- an integer
 pub int-multiple : (z : ℤ) → natAbs z < E → Multiple (ofInt binary64 z) (low binary64) (natAbs z)
-int-multiple z h =
-    let w = ofInt-exact z h in
-    record { num = w .num; is = size z (sgn (ofInt binary64 z)) (mag (ofInt binary64 z)) (w .is) ∙ ap (λ (u : ℕ). natAbs z * u) U-is }
-  where
-    size : (z : ℤ) (s : Bool) (m : ℕ) → signed s m ≈ ones z → m ≡ natAbs z * U
-    size (pos n) s m e = same-size s false m (n * U) (omega (arith, e))
-    size (negsuc n) s m e = same-size s true m (suc n * U) (omega (arith, e))
+int-multiple z h = let w = ofInt-exact z h in record { num = w .num; is = w .size ∙ ap (λ (u : ℕ). natAbs z * u) U-is }

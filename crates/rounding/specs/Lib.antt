@@ -18,3 +18,6 @@ pub mod Exactness
 pub mod Distance
 pub mod Spacing
 pub mod Cells
+pub mod Row
+pub mod Steps
+pub mod Lattice

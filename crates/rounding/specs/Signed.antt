@@ -1,6 +1,6 @@
 -- Signed whole numbers: p - n for a pair of natural numbers, written in any way. `omega arith` opens all of it, so it normalises and solves them.
 -- Rests on nothing.
-use mathlib.Core.Path.{_≡_, refl, _∙_}
+use mathlib.Core.Path.{_≡_, refl, ap, _∙_}
 use mathlib.Core.Bool.{Bool, true, false}
 use Prim.Native.Nat.{ℕ, zero, suc, _+_, _-_, _*_, _≤_, _<_}
 use native.Mathlib.Nat.{mul-comm, mul-sub, add-mul}
@@ -67,10 +67,22 @@ pub abs-of : (a : Exact) (s : Bool) (m : ℕ) → a ≈ signed s m → abs a ≡
 abs-of a false m h = omega arith
 abs-of a true m h = omega arith
 
+-- equal numbers are equal in size
+pub same-size : (s t : Bool) (m n : ℕ) → signed s m ≈ signed t n → m ≡ n
+same-size false false m n h = omega arith
+same-size false true m n h = omega arith
+same-size true false m n h = omega arith
+same-size true true m n h = omega arith
+
 -- a number that is not negative is its size
 pub plain : (s : Bool) (m : ℕ) → nat 0 ≼ signed s m → signed s m ≈ nat m
 plain false m h = omega arith
 plain true m h = omega arith
+
+-- a number times u
+pub scaled : (a : Exact) (s : Bool) (m u : ℕ) → a ≈ signed s m → a ⊗ nat u ≈ signed s (m * u)
+scaled a false m u h = omega (arith, ap (λ (z : ℕ). z * u) h)
+scaled a true m u h = omega (arith, ap (λ (z : ℕ). z * u) h)
 
 -- |a|² is a². `omega` takes a difference inside a product for an unknown, so the difference is named and the cases are split by hand
 square-of : (p n i j : ℕ) → p - n ≡ i → n - p ≡ j → (i + j) * (i + j) + (p * n + n * p) ≡ p * p + n * n

@@ -22,9 +22,21 @@ pub zero-num : Num 0ᶠ
 unfolding ofBits fits
 zero-num = record { fit = tt; fine = tt }
 
+pub zero-mag : mag 0ᶠ ≡ 0
+unfolding ofBits mag U
+zero-mag = refl
+
 pub zero-val : val 0ᶠ ≡ nat 0
 unfolding ofBits sgn mag U
 zero-val = refl
+
+-- a number above 0 has no minus sign
+pub positive : (x : Float) → 0 < mag x → Nonneg x → sgn x ≡ false
+positive x = go (sgn x) (mag x)
+  where
+    go : (s : Bool) (m : ℕ) → 0 < m → nat 0 ≼ signed s m → s ≡ false
+    go false m m0 h = refl
+    go true m m0 h = absurd (omega (arith, m0, h))
 
 -- a rounded sum or difference that is not negative
 pub rounding-nonneg : {z : Float} {v : Exact} → Rounding z v → nat 0 ≼ v → Nonneg z

@@ -13,7 +13,7 @@ use lib.Ieee.{Float, nan, inf, fin, binary64, up, down, low, neg, round, ofInt, 
 use lib.Ieee.Fits.{down-pos}
 use lib.Ieee.Scale.{round-same, finite}
 use Rattle.float.specs.Whole.{floor, ceil, as-i64, as-usize, as-f64}
-use Rattle.rounding.specs.Signed.{Exact, signed, nat, opp, _⊕_, _⊗_, _≈_, _≼_, _≺_}
+use Rattle.rounding.specs.Signed.{Exact, signed, same-size, nat, opp, _⊕_, _⊗_, _≈_, _≼_, _≺_}
 use Rattle.rounding.specs.Value.{U, U-is, U-pos, E, sgn, mag, val, Num, Digits, digits, digits-whole, significand, own, neg-num, neg-val}
 use Rattle.rounding.specs.Rounded.{B, Rounded, rounded, same, round-bounded, own-finite}
 use Rattle.rounding.specs.Operations.{IsRound}
@@ -40,11 +40,6 @@ int-lt (negsuc m) (negsuc n) h = omega (arith, ltb→lt n m h)
 abbrev pub ones : ℤ → Exact
 ones z = int z ⊗ nat U
 
--- x is the whole number z
-pub record IsWhole (x : Float) (z : ℤ) : Type 0 where
-  pub num : Num x
-  pub is : val x ≈ ones z
-
 int-is : (s : Bool) (n : ℕ) (v : Exact) → v ≈ signed s (n * U) → IsRound (round binary64 s n 1) v
 int-is s n v h = record { sign = s; size = n * U; is = round-same binary64 s n 1 (n * U) U (lit< tt) U-pos (sym (mul-one (n * U))); value = h }
 
@@ -61,16 +56,35 @@ ofInt-law z h = rounding (ofInt binary64 z) (ones z) (ofInt-is z) (size-bound (o
     room (pos n) h = omega (arith, mul-le-mul-right U h)
     room (negsuc n) h = omega (arith, mul-le-mul-right U h)
 
+-- x is the whole number z
+pub record IsWhole (x : Float) (z : ℤ) : Type 0 where
+  pub num : Num x
+  pub is : val x ≈ ones z
+  pub size : mag x ≡ natAbs z * U
+  pub sign : signed (sgn x) (natAbs z) ≈ int z
+
 -- and exactly z below 2 ^ 53
 pub ofInt-exact : (z : ℤ) → natAbs z < E → IsWhole (ofInt binary64 z) z
-ofInt-exact z h = record { num = r .num; is = exact z h r }
+ofInt-exact z h = whole z h (ofInt-law z (omega arith))
   where
-    r : Rounding (ofInt binary64 z) (ones z)
-    r = ofInt-law z (omega arith)
+    sign-of : (s t : Bool) (n u : ℕ) → 0 < u → signed s (n * u) ≈ signed t (n * u) → signed s n ≈ signed t n
+    sign-of false false n u u0 e = refl
+    sign-of true true n u u0 e = refl
+    sign-of false true zero u u0 e = refl
+    sign-of false true (suc n) u u0 e = absurd (omega (arith, e, u0))
+    sign-of true false zero u u0 e = refl
+    sign-of true false (suc n) u u0 e = absurd (omega (arith, e, u0))
 
-    exact : (z : ℤ) → natAbs z < E → Rounding (ofInt binary64 z) (ones z) → val (ofInt binary64 z) ≈ ones z
-    exact (pos n) h r = omega (arith, r .least false (n * U) (digits-whole n h) (omega arith), r .most false (n * U) (digits-whole n h) (omega arith))
-    exact (negsuc n) h r = omega (arith, r .least true (suc n * U) (digits-whole (suc n) h) (omega arith), r .most true (suc n * U) (digits-whole (suc n) h) (omega arith))
+    at : (x : Float) (t : Bool) (n : ℕ) (v : Exact) → v ≈ signed t (n * U) → n < E → Rounding x v → (val x ≈ signed t (n * U)) × (mag x ≡ n * U) × (signed (sgn x) n ≈ signed t n)
+    at x t n v e h r =
+        let d = digits-whole n h in
+        let k : val x ≈ signed t (n * U) = omega (arith, e, r .least t (n * U) d (omega (arith, e)), r .most t (n * U) d (omega (arith, e))) in
+        let m = same-size (sgn x) t (mag x) (n * U) k in
+        (k, m, sign-of (sgn x) t n U U-pos (rw m at k))
+
+    whole : (z : ℤ) → natAbs z < E → Rounding (ofInt binary64 z) (ones z) → IsWhole (ofInt binary64 z) z
+    whole (pos n) h r = let a = at (ofInt binary64 (pos n)) false n (ones (pos n)) (omega arith) h r in record { num = r .num; is = omega (arith, a .0); size = a .1; sign = a .2 }
+    whole (negsuc n) h r = let a = at (ofInt binary64 (negsuc n)) true (suc n) (ones (negsuc n)) (omega arith) h r in record { num = r .num; is = omega (arith, a .0); size = a .1; sign = a .2 }
 
 -- ---- floor. M is the size in units of m * 2 ^ e, and n the whole part of m * 2 ^ e
 below-part : (a d M u : ℕ) → 0 < d → 0 < u → a * u ≡ M * d → (a / d * u ≤ M) × (M < a / d * u + u)
