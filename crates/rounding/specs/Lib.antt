@@ -21,3 +21,4 @@ pub mod Cells
 pub mod Row
 pub mod Steps
 pub mod Lattice
+pub mod Walk
