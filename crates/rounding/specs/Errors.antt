@@ -10,7 +10,7 @@ use lib.Ieee.{Float, binary64, round, unlike}
 use lib.Ieee.Scale.{finite}
 use Rattle.float.specs.Ops.{_+ᶠ_, _-ᶠ_, _*ᶠ_, _/ᶠ_}
 use Rattle.rounding.specs.Signed.{Exact, signed, _⊕_, _⊖_, _≈_, _≼_, abs, abs-of, signed-le}
-use Rattle.rounding.specs.Relative.{Near, Close, close-signed}
+use Rattle.rounding.specs.Relative.{Near, cancel, Close, close-signed}
 use Rattle.rounding.specs.Value.{U, U-pos, E, H, sgn, mag, val, Num, Digits, digits-zero}
 use Rattle.rounding.specs.Rounded.{B, Rounded, rounded, RoundedUnits, rounded-units, round-bounded}
 use Rattle.rounding.specs.Operations.{IsRound, add-is, sub-is, mul-is, div-is}
@@ -84,9 +84,8 @@ pub record Product (x y z : Float) : Type 0 where
   pub least : (g : ℕ) → Digits g → g * U ≤ mag x * mag y → g ≤ mag z
   pub most : (g : ℕ) → Digits g → mag x * mag y ≤ g * U → mag z ≤ g
 
--- h stands for H, since `omega` multiplies its numerals
-by-unit : (h g a u : ℕ) → 0 < u → Near (h * 2) 1 (u * u * h) (g * (u * u)) (a * u) → Near (h * 2) 1 (u * h) (g * u) a
-by-unit h g a u u0 w = record { above = le-of-mul-le-mul-right (omega (arith, w .above)) u0; below = le-of-mul-le-mul-right (omega (arith, w .below)) u0 }
+by-unit : (g a u : ℕ) → 0 < u → Near E 1 (u * u * H) (g * (u * u)) (a * u) → Near E 1 (u * H) (g * u) a
+by-unit g a u u0 w = cancel E 1 (u * H) (g * u) a u u0 (record { above = omega (arith, w .above); below = omega (arith, w .below) })
 
 -- ---- the quotient
 pub record Quotient (x y z : Float) : Type 0 where
@@ -106,7 +105,7 @@ module _ (x y : Float) (p : Num x) (q : Num y) where
       record {
         num = r .num;
         sign = r .sign;
-        near = by-unit H (mag (x *ᶠ y)) n U U-pos (r .near);
+        near = by-unit (mag (x *ᶠ y)) n U U-pos (r .near);
         least = λ g d h. r .least g d (omega (arith, mul-le-mul-right U h));
         most = λ g d h. r .most g d (omega (arith, mul-le-mul-right U h));
       }

@@ -22,3 +22,4 @@ pub mod Row
 pub mod Steps
 pub mod Lattice
 pub mod Walk
+pub mod Shares

@@ -10,12 +10,12 @@ use lib.Dec.{T, lit<, lit≤}
 use lib.Ieee.{Float, binary64, ofInt, unlike, ofBits}
 use Rattle.float.specs.Ops.{_+ᶠ_, _*ᶠ_, _/ᶠ_, 0ᶠ, 2ᶠ}
 use Rattle.rounding.specs.Signed.{Exact, signed, signed-le, scaled, nat, abs, _⊕_, _⊗_, _≈_}
-use Rattle.rounding.specs.Relative.{Near, Close, close-wider, close-signed}
+use Rattle.rounding.specs.Relative.{Near, cancel, Close, close-wider, close-signed}
 use Rattle.rounding.specs.Value.{U, U-pos, E, H, sgn, mag, val, Num, digits-whole}
 use Rattle.rounding.specs.Errors.{add-of-finite, mul-law, div-law}
 use Rattle.rounding.specs.Bounds.{Sized, add-sized}
 use Rattle.rounding.specs.Signs.{zero-num, zero-mag, zero-val}
-use Rattle.rounding.specs.Whole.{int, IsWhole, ofInt-exact}
+use Rattle.rounding.specs.Whole.{int, ofInt-exact, whole-product}
 use Rattle.rounding.specs.Row.{Step, two-num, two-mag, two-plus}
 
 -- anchor + offset + i as f64 * s
@@ -42,10 +42,6 @@ record Times (i : ℤ) (h p : Float) : Type 0 where
   sized : Sized p 65536
   close : Close E (65536 * U + H) (val p) (int i ⊗ nat (mag h))
 
--- k stands for H
-cancel : (k p n h u : ℕ) → 0 < u → Near (k * 2) 1 (u * k) (p * u) (n * u * h) → Near (k * 2) 1 k p (n * h)
-cancel k p n h u u0 w = record { above = le-of-mul-le-mul-right {k = u} (omega (arith, w .above)) u0; below = le-of-mul-le-mul-right {k = u} (omega (arith, w .below)) u0 }
-
 unlike-plus : (s t : Bool) → t ≡ false → unlike s t ≡ s
 unlike-plus true t e = ap (unlike true) e
 unlike-plus false t e = ap (unlike false) e
@@ -58,7 +54,7 @@ times i h st r =
     let w = ofInt-exact i (few i h st r) in
     let t : mag f * mag h ≤ 65536 * U * U = le-trans (le-of-eq (ap (λ (z : ℕ). z * mag h) (w .size) ∙ mul-right-comm n U (mag h))) (mul-le-mul-right U r) in
     let m = mul-law f h (w .num) (st .sized .num) (omega (arith, t)) in
-    let c = close-signed E H (mag p) (n * mag h) (sgn p) (cancel H (mag p) n (mag h) U U-pos (rw (w .size) at (m .near))) in
+    let c = close-signed E H (mag p) (n * mag h) (sgn p) (whole-product f h p i w m) in
     let sign : sgn p ≡ sgn f = m .sign ∙ unlike-plus (sgn f) (sgn h) (st .plus) in
     let e : int i ⊗ nat (mag h) ≈ signed (sgn p) (n * mag h) = rw sign (scaled (int i) (sgn f) n (mag h) (omega (arith, w .sign))) in
     record {
@@ -88,9 +84,8 @@ record Shift (odd : Bool) (s o : Float) : Type 0 where
   sized : Sized o 65536
   close : Close E (65536 * U + 2 * H) (val o ⊕ val o) (nat (halves odd * mag s))
 
--- k stands for H
-half-near : (k o s u : ℕ) → 0 < u → Near (k * 2) 1 (2 * u * k) (o * (2 * u)) (s * u) → Near (k * 2) 1 (2 * k) (2 * o) s
-half-near k o s u u0 w = record { above = le-of-mul-le-mul-right {k = u} (omega (arith, w .above)) u0; below = le-of-mul-le-mul-right {k = u} (omega (arith, w .below)) u0 }
+half-near : (o s : ℕ) → Near E 1 (2 * U * H) (o * (2 * U)) (s * U) → Near E 1 (2 * H) (2 * o) s
+half-near o s w = cancel E 1 (2 * H) (2 * o) s U U-pos (record { above = omega (arith, w .above); below = omega (arith, w .below) })
 
 shift : (odd : Bool) (s : Float) → Step s → Shift odd s (offset odd s)
 shift false s st = record { sized = record { num = zero-num; size = rw zero-mag (omega arith) }; close = rw zero-val (omega arith) }
@@ -99,7 +94,7 @@ shift true s st =
     let S = st .sized in
     let q = div-law s 2ᶠ (S .num) two-num (rw two-mag (omega (arith, U-pos))) (rw two-mag (omega (arith, S .size))) in
     let sign : sgn o ≡ false = q .sign ∙ unlike-plus (sgn s) (sgn 2ᶠ) two-plus ∙ st .plus in
-    let c = close-signed E (2 * H) (2 * mag o) (mag s) false (half-near H (mag o) (mag s) U U-pos (rw two-mag at (q .near))) in
+    let c = close-signed E (2 * H) (2 * mag o) (mag s) false (half-near (mag o) (mag s) (rw two-mag at (q .near))) in
     record {
       sized = record { num = q .num; size = q .most (65536 * U) (digits-whole 65536 (lit< tt)) (rw two-mag (omega (arith, mul-le-mul-right U (S .size)))) };
       close = rw sign (record { above = omega (arith, c .above, S .size); below = omega (arith, c .below, S .size) });

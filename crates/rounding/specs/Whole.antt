@@ -14,10 +14,11 @@ use lib.Ieee.Fits.{down-pos}
 use lib.Ieee.Scale.{round-same, finite}
 use Rattle.float.specs.Whole.{floor, ceil, as-i64, as-usize, as-f64}
 use Rattle.rounding.specs.Signed.{Exact, signed, same-size, nat, opp, _⊕_, _⊗_, _≈_, _≼_, _≺_}
-use Rattle.rounding.specs.Value.{U, U-is, U-pos, E, sgn, mag, val, Num, Digits, digits, digits-whole, significand, own, neg-num, neg-val}
+use Rattle.rounding.specs.Relative.{Near, cancel}
+use Rattle.rounding.specs.Value.{U, U-is, U-pos, E, H, sgn, mag, val, Num, Digits, digits, digits-whole, significand, own, neg-num, neg-val}
 use Rattle.rounding.specs.Rounded.{B, Rounded, rounded, same, round-bounded, own-finite}
 use Rattle.rounding.specs.Operations.{IsRound}
-use Rattle.rounding.specs.Errors.{Rounding, rounding, size-bound}
+use Rattle.rounding.specs.Errors.{Rounding, rounding, size-bound, Product}
 
 -- ---- integers, read as exact numbers
 abbrev pub int : ℤ → Exact
@@ -85,6 +86,13 @@ ofInt-exact z h = whole z h (ofInt-law z (omega arith))
     whole : (z : ℤ) → natAbs z < E → Rounding (ofInt binary64 z) (ones z) → IsWhole (ofInt binary64 z) z
     whole (pos n) h r = let a = at (ofInt binary64 (pos n)) false n (ones (pos n)) (omega arith) h r in record { num = r .num; is = omega (arith, a .0); size = a .1; sign = a .2 }
     whole (negsuc n) h r = let a = at (ofInt binary64 (negsuc n)) true (suc n) (ones (negsuc n)) (omega arith) h r in record { num = r .num; is = omega (arith, a .0); size = a .1; sign = a .2 }
+
+-- a whole number times y
+pub whole-product : (x y z : Float) (i : ℤ) → IsWhole x i → Product x y z → Near E 1 H (mag z) (natAbs i * mag y)
+whole-product x y z i w r = go (rw (w .size) at (r .near))
+  where
+    go : Near E 1 (U * H) (mag z * U) (natAbs i * U * mag y) → Near E 1 H (mag z) (natAbs i * mag y)
+    go n = cancel E 1 H (mag z) (natAbs i * mag y) U U-pos (record { above = omega (arith, n .above); below = omega (arith, n .below) })
 
 -- ---- floor. M is the size in units of m * 2 ^ e, and n the whole part of m * 2 ^ e
 below-part : (a d M u : ℕ) → 0 < d → 0 < u → a * u ≡ M * d → (a / d * u ≤ M) × (M < a / d * u + u)
