@@ -1,16 +1,15 @@
 -- `floor() as i64`, `ceil() as i64` and `floor() as usize` of a finite number: the greatest whole number at most it, the least at least it.
--- Rests on `Whole`: floor is exact.
+-- Rests on `Whole` (floor is exact) and float's laws of the casts.
 use mathlib.Core.Path.{_≡_, refl, sym, ap, _∙_, subst}
 use mathlib.Core.Bool.{Bool, true, false, cond}
 use Prim.Native.Nat.{ℕ, zero, suc, _+_, _-_, _*_, _/_, _^_, _≤_, _<_, min}
-use native.Mathlib.Nat.{le-trans, le-of-eq, le-of-lt, lt-of-le-of-lt, lt-of-lt-of-le, le-of-mul-le-mul-right, mul-right-comm, mul-div-cancel, eq-of-mul-eq-mul-right, min-eq-left, div-eq-of-lt-le, mul-one}
+use native.Mathlib.Nat.{le-of-lt, lt-of-le-of-lt, le-of-mul-le-mul-right, eq-of-mul-eq-mul-right, min-eq-left, div-eq-of-lt-le}
 use native.Mathlib.Omega.{arith}
 use lib.IntN.{ℤ, pos, negsuc, negℤ}
-use lib.Dec.{T, lit<, lit≤}
-use lib.Ieee.{Float, nan, inf, fin, binary64, up, down, neg, toSigned, toUnsigned}
-use lib.Ieee.Fits.{down-pos}
-use lib.Ieee.Scale.{finite}
+use lib.Ieee.{Float, nan, inf, fin, up, down, neg, toUnsigned}
+use lib.Ieee.Exact.{HasValue}
 use Rattle.float.specs.Whole.{floor, ceil, as-i64, as-usize}
+use Rattle.float.specs.Laws.Whole.{signed-value, unsigned-value}
 use Rattle.rounding.specs.Signed.{Exact, signed, scaled, nat, opp, plain, _⊕_, _⊗_, _≈_, _≼_, _≺_}
 use Rattle.rounding.specs.Value.{U, U-pos, sgn, mag, val, Num, own, neg-num, neg-mag, neg-val}
 use Rattle.rounding.specs.Whole.{int, ones, floor-law}
@@ -19,35 +18,30 @@ use Rattle.rounding.specs.Whole.{int, ones, floor-law}
 abbrev pub half : ℕ
 half = 9223372036854775808
 
--- the digits of a whole number n
-whole-digits : (x : Float) (s : Bool) (m : ℕ) (e : ℤ) (n : ℕ) → x ≡ fin s m e → Num x → mag x ≡ n * U → m * up e / down e ≡ n
-whole-digits x s m e n is p h =
-    let y = fin s m e in
-    let q : Num y = subst Num is p in
-    let g : mag y ≡ n * U = ap mag (sym is) ∙ h in
-    let k : m * up e ≡ n * down e = eq-of-mul-eq-mul-right U U-pos (m * up e) (n * down e) (own y q .1 ∙ ap (λ (z : ℕ). z * down e) g ∙ mul-right-comm n U (down e)) in
-    ap (λ (z : ℕ). z / down e) k ∙ mul-div-cancel n (down-pos e)
+-- x is n whole ones
+whole-value : (x : Float) (n : ℕ) → Num x → mag x ≡ n * U → HasValue x (sgn x) n 1
+unfolding sgn
+whole-value nan n p h = absurd (p .fine)
+whole-value (inf s) n p h = absurd (p .fine)
+whole-value (fin s m e) n p h =
+    (refl, eq-of-mul-eq-mul-right U U-pos (m * up e * 1) (n * down e) (omega (arith, own (fin s m e) p .1, ap (λ (z : ℕ). z * down e) h)))
 
 neg-int : (n : ℕ) → int (negℤ (pos n)) ≈ signed true n
 neg-int zero = omega arith
 neg-int (suc n) = omega arith
 
 pub to-i64 : (x : Float) (n : ℕ) → Num x → mag x ≡ n * U → n < half → int (as-i64 x) ≈ signed (sgn x) n
-unfolding toSigned sgn
-to-i64 nan n p e h = absurd (p .fine)
-to-i64 (inf s) n p e h = absurd (p .fine)
-to-i64 (fin false m d) n p e h =
-    let w = whole-digits (fin false m d) false m d n refl p e in
-    subst (λ (z : ℕ). int (pos (min z (2 ^ 63 - 1))) ≈ nat n) (sym w) (subst (λ (z : ℕ). int (pos z) ≈ nat n) (sym (min-eq-left (omega (arith, h)))) (omega arith))
-to-i64 (fin true m d) n p e h =
-    let w = whole-digits (fin true m d) true m d n refl p e in
-    subst (λ (z : ℕ). int (negℤ (pos (min z (2 ^ 63)))) ≈ signed true n) (sym w) (subst (λ (z : ℕ). int (negℤ (pos z)) ≈ signed true n) (sym (min-eq-left (le-of-lt h))) (neg-int n))
+to-i64 x n p e h = rw (signed-value x (sgn x) n (whole-value x n p e)) (go (sgn x))
+  where
+    go : (s : Bool) → int (cond s (negℤ (pos (min n (2 ^ 63)))) (pos (min n (2 ^ 63 - 1)))) ≈ signed s n
+    go true = rw (min-eq-left (le-of-lt h)) (neg-int n)
+    go false = omega (arith, h)
 
 pub to-usize : (x : Float) (n : ℕ) → Num x → nat 0 ≼ val x → mag x ≡ n * U → n < half → as-usize x ≡ n
 unfolding toUnsigned sgn
 to-usize nan n p o e h = absurd (p .fine)
 to-usize (inf s) n p o e h = absurd (p .fine)
-to-usize (fin false m d) n p o e h = ap (λ (z : ℕ). min z (2 ^ 64 - 1)) (whole-digits (fin false m d) false m d n refl p e) ∙ min-eq-left (omega (arith, h))
+to-usize (fin false m d) n p o e h = unsigned-value (fin false m d) n (whole-value (fin false m d) n p e) (omega (arith, h))
 to-usize (fin true m d) n p o e h = nothing n (omega (arith, plain true (mag (fin true m d)) o, e))
   where
     nothing : (n : ℕ) → n * U ≤ 0 → 0 ≡ n

@@ -2,7 +2,7 @@
 -- Rests on `Value`: the two numbers over one denominator.
 use mathlib.Core.Path.{_≡_, refl, sym, ap, _∙_, subst}
 use mathlib.Core.Logic.{inl, inr}
-use mathlib.Core.Bool.{Bool, true, false, not, _||_}
+use mathlib.Core.Bool.{Bool, true, false, not}
 use Prim.Native.Nat.{ℕ, zero, suc, _+_, _*_, _≤_, _<_}
 use native.Mathlib.Nat.{le-of-eq, le-of-mul-le-mul-right, mul-le-mul-right, mul-pos, lt-of-not-le, not-le-of-lt, eq-of-mul-eq-mul-right}
 use native.Mathlib.Omega.{arith}
@@ -10,7 +10,7 @@ use lib.Dec.{T, eqb, ltb→lt, nltb→le, eqb→eq, T-not}
 use lib.Ieee.{Float, nan, inf, fin, up, down, below, level, lt, eq, le}
 use lib.Ieee.Fits.{down-pos, and-l, and-r, and-i, eq→eqb}
 use lib.Ieee.Scale.{finite}
-use Rattle.laws.specs.Truth.{or-split}
+use Rattle.laws.specs.Truth.{or-split, nor-l, nor-r}
 use Rattle.rounding.specs.Signed.{Exact, signed, _≈_, _≼_, _≺_}
 use Rattle.rounding.specs.Value.{U, U-pos, sgn, mag, val, Num, own}
 
@@ -98,10 +98,6 @@ by-no : (b : Bool) → (T (not b) → ⊥) → T b
 by-no true h = tt
 by-no false h = absurd (h tt)
 
-nor : (x y : Bool) → T (not (x || y)) → T (not x) × T (not y)
-nor true y h = absurd h
-nor false y h = (tt, h)
-
 module _ (x y : Float) (p : Num x) (q : Num y) where
   pub lt→≺ : T (lt x y) → val x ≺ val y
   lt→≺ = facts x y p q .lt-true
@@ -125,9 +121,8 @@ module _ (x y : Float) (p : Num x) (q : Num y) where
   pub ¬le→≺ : T (not (le x y)) → val y ≺ val x
   unfolding le
   ¬le→≺ h =
-      let n = nor (lt x y) (eq x y) h in
-      let l = ¬lt→≼ (n .0) in
-      lt-of-not-le (λ (g : val x .p + val y .n ≤ val y .p + val x .n). T-not (eq x y) (n .1) (≈→eq (omega arith)))
+      let l = ¬lt→≼ (nor-l (lt x y) (eq x y) h) in
+      lt-of-not-le (λ (g : val x .p + val y .n ≤ val y .p + val x .n). T-not (eq x y) (nor-r (lt x y) (eq x y) h) (≈→eq (omega arith)))
 
   pub ≼→le : val x ≼ val y → T (le x y)
   ≼→le h = by-no (le x y) (λ (g : T (not (le x y))). absurd (omega (arith, h, ¬le→≺ g)))

@@ -9,7 +9,7 @@ use native.Mathlib.Omega.{arith}
 use lib.IntN.{pos}
 use lib.Dec.{T, lit<, lit≤}
 use lib.ListN.{length}
-use lib.Ieee.{Float, nan, inf, fin, binary64, add, ofBits, fits}
+use lib.Ieee.{Float, nan, inf, fin, binary64, add, neg, ofBits, fits}
 use lib.Ieee.Scale.{finite}
 use Rattle.float.specs.Ops.{_+ᶠ_, _*ᶠ_, _/ᶠ_, 0ᶠ, -0ᶠ}
 use Rattle.float.specs.Order.{max}
@@ -85,7 +85,7 @@ fold-total acc (w ∷ ws) k A h t (more p ps) f =
     subst (λ (v : ℕ). Total z (k + 2 * suc (length ws)) v) (add-assoc A (mag w) (sum ws)) (subst (λ (v : ℕ). Total z v (A + mag w + sum ws)) c r)
 
 minus-zero : Total -0ᶠ 0 0
-unfolding ofBits fits sgn mag U
+unfolding ofBits neg fits sgn mag U
 minus-zero = record { num = record { fit = tt; fine = tt }; nonneg = lit≤ tt; near = record { above = lit≤ tt; below = lit≤ tt } }
 
 -- weights.iter().sum(), of 16 at most

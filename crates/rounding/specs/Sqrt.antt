@@ -1,5 +1,5 @@
 -- The square root of a finite number that is not negative: how near, in order, and a number of 53 digits stays on its side.
--- Rests on `Root`, the same for whole numbers of units squared.
+-- Rests on `Root`, the same for whole numbers of units squared, and the order of roots.
 use mathlib.Core.Path.{_≡_, refl, sym, ap, _∙_, subst}
 use mathlib.Core.Logic.{inl, inr}
 use mathlib.Core.Bool.{Bool, true, false}
@@ -9,19 +9,23 @@ use native.Mathlib.Omega.{arith}
 use lib.IntN.{ℤ, pos, negsuc}
 use lib.Dec.{T, lit<, lit≤}
 use lib.Pow.{pow-mono, pow-lt, pow-pos}
-use lib.Ieee.{Float, nan, inf, fin, binary64, prec, emax, low, up, down, fits}
+use lib.Ieee.{Float, nan, inf, fin, binary64, prec, emax, low, up, down, le, fits}
 use lib.Ieee.Fits.{down-pos, up-pos}
 use lib.Ieee.Exact.{HasValue, units-val}
 use lib.Ieee.Scale.{finite, overflow}
+use Rattle.float.specs.Ops.{0ᶠ}
 use Rattle.float.specs.Order.{sqrt}
 use Rattle.float.specs.Root.{rootOf, nearestRoot}
 use Rattle.float.specs.Laws.Fits.{rootOf-fits}
-use Rattle.rounding.specs.Signed.{signed, nat, _≼_}
+use Rattle.float.specs.Laws.Zero.{origin, origin-is}
+use Rattle.float.specs.Laws.Monotone.{rootOf-mono}
+use Rattle.rounding.specs.Signed.{signed, plain, nat, _≼_}
 use Rattle.rounding.specs.Relative.{Under}
 use Rattle.rounding.specs.Value.{U, U-pos, E, H, sgn, mag, val, Num, Digits, digits-at, digits-zero, digits-whole, own, mag-of, sgn-of, fine-of, mag-under}
-use Rattle.rounding.specs.Signs.{Nonneg}
+use Rattle.rounding.specs.Comparison.{le→≼, ≼→le}
+use Rattle.rounding.specs.Signs.{Nonneg, zero-num, zero-val}
 use Rattle.rounding.specs.Bounds.{Sized}
-use Rattle.rounding.specs.Root.{root, rest, steps, NearRoot, near-root-full, root-least, root-most, root-mono}
+use Rattle.rounding.specs.Root.{root, rest, steps, NearRoot, near-root-full, root-least, root-most}
 
 -- what the root is taken of
 square : (s : Bool) (m : ℕ) (e : ℤ) → Num (fin s m e) → m * up e * (U * U) / down e ≡ mag (fin s m e) * U
@@ -119,8 +123,17 @@ module _ (x z : Float) (r : Rooted x z) where
   pub sqrt-most : (b : ℕ) → Digits b → mag x * U ≤ b * b → mag z ≤ b
   sqrt-most b d h = le-trans (le-of-eq (r .size)) (root-most (mag x * U) b d h)
 
-pub sqrt-mono : (x y z w : Float) → Rooted x z → Rooted y w → mag x ≤ mag y → mag z ≤ mag w
-sqrt-mono x y z w r s h = le-trans (le-of-eq (r .size)) (le-trans (root-mono (mag x * U) (mag y * U) (mul-le-mul-right U h)) (le-of-eq (sym (s .size))))
+pub sqrt-mono : (x y : Float) → Num x → Num y → Nonneg x → Nonneg y → mag x ≤ mag y → mag (sqrt x) ≤ mag (sqrt y)
+sqrt-mono x y p q o o' h =
+    let a = plain (sgn x) (mag x) o in
+    let b = plain (sgn y) (mag y) o' in
+    let l : T (le origin x) = subst (λ (z : Float). T (le z x)) origin-is (≼→le 0ᶠ x zero-num p (rw zero-val o)) in
+    let r = sqrt-law x p o in
+    let s = sqrt-law y q o' in
+    let c = plain (sgn (sqrt x)) (mag (sqrt x)) (r .nonneg) in
+    let d = plain (sgn (sqrt y)) (mag (sqrt y)) (s .nonneg) in
+    let m = le→≼ (sqrt x) (sqrt y) (r .num) (s .num) (rootOf-mono binary64 x y l (≼→le x y p q (omega (arith, a, b, h)))) in
+    omega (arith, c, d, m)
 
 -- the root of k² at most is k at most
 pub sqrt-sized : (x : Float) (k : ℕ) → Sized x (k * k) → Nonneg x → k < E → Sized (sqrt x) k

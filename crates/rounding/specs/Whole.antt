@@ -1,22 +1,26 @@
--- Whole numbers: integers become floats, floor and ceil give whole numbers, and these become integers again.
--- Rests on `Rounded` (53 digits do not change) and the kit's account of the casts.
+-- Whole numbers: an integer as a float, rounded or exact, a product with one, and floor as a whole number.
+-- Rests on `Errors` (53 digits do not change) and float's laws of floor.
 use mathlib.Core.Path.{_≡_, refl, sym, ap, _∙_, subst}
-use mathlib.Core.Bool.{Bool, true, false, not, cond}
-use Prim.Native.Nat.{ℕ, zero, suc, _+_, _-_, _*_, _/_, _%_, _^_, _≤_, _<_, min}
-use native.Mathlib.Nat.{le-of-suc-le-suc, le-trans, le-of-eq, le-of-lt, lt-of-le-of-lt, mul-one, one-mul, mul-comm, mul-assoc, mul-right-comm, mul-le-mul-right, mul-le-mul-left, mul-div-cancel, div-one, eq-of-mul-eq-mul-right, le-of-mul-le-mul-right, lt-of-mul-lt-mul-right, mul-lt-mul-of-pos-right, div-mul-le-self, lt-div-mul-add, div-le-self, div-lt-iff-lt-mul, min-eq-left, add-sub-cancel}
+use mathlib.Core.Logic.{inl, inr}
+use mathlib.Core.Bool.{Bool, true, false}
+use Prim.Native.Nat.{ℕ, zero, suc, _+_, _-_, _*_, _/_, _^_, _≤_, _<_}
+use native.Mathlib.Nat.{mul-one, mul-le-mul-right, eq-of-mul-eq-mul-right, le-of-mul-le-mul-right, lt-of-mul-lt-mul-right, mul-lt-mul-of-pos-right, div-mul-le-self, lt-div-mul-add}
 use native.Mathlib.Omega.{arith}
-use lib.IntN.{ℤ, pos, negsuc, negℤ, natAbs}
+use lib.IntN.{ℤ, pos, negsuc, natAbs}
 use lib.Dec.{T, leb→le, ltb→lt, lit<}
 use lib.Signed.{leZ, ltZ}
-use lib.Pow.{pow-add, pow-pos}
-use lib.Ieee.{Float, nan, inf, fin, binary64, up, down, low, neg, round, ofInt, toSigned, toUnsigned, fits}
+use lib.Pow.{pow-pos}
+use lib.Ieee.{Float, nan, inf, fin, binary64, up, down, round, ofInt, fits}
 use lib.Ieee.Fits.{down-pos}
-use lib.Ieee.Scale.{round-same, finite}
-use Rattle.float.specs.Whole.{floor, ceil, as-i64, as-usize, as-f64}
-use Rattle.rounding.specs.Signed.{Exact, signed, same-size, nat, opp, _⊕_, _⊗_, _≈_, _≼_, _≺_}
+use lib.Ieee.Exact.{HasValue}
+use lib.Ieee.Scale.{round-same}
+use Rattle.laws.specs.Orders.{lt-or-le}
+use Rattle.float.specs.Whole.{floor}
+use Rattle.float.specs.Laws.Whole.{under, over, Large, floor-large, floor-above, floor-below, floor-fits}
+use Rattle.rounding.specs.Signed.{Exact, signed, same-size, nat, _⊕_, _⊗_, _≈_, _≼_, _≺_}
 use Rattle.rounding.specs.Relative.{Near, cancel}
-use Rattle.rounding.specs.Value.{U, U-is, U-pos, E, H, sgn, mag, val, Num, Digits, digits, digits-whole, significand, own, neg-num, neg-val}
-use Rattle.rounding.specs.Rounded.{B, Rounded, rounded, same, round-bounded, own-finite}
+use Rattle.rounding.specs.Value.{U, U-pos, E, H, sgn, mag, val, Num, digits-whole, significand, own, value-mag, fine-of, sgn-of}
+use Rattle.rounding.specs.Rounded.{B}
 use Rattle.rounding.specs.Operations.{IsRound}
 use Rattle.rounding.specs.Errors.{Rounding, rounding, size-bound, Product}
 
@@ -94,7 +98,7 @@ whole-product x y z i w r = go (rw (w .size) at (r .near))
     go : Near E 1 (U * H) (mag z * U) (natAbs i * U * mag y) → Near E 1 H (mag z) (natAbs i * mag y)
     go n = cancel E 1 H (mag z) (natAbs i * mag y) U U-pos (record { above = omega (arith, n .above); below = omega (arith, n .below) })
 
--- ---- floor. M is the size in units of m * 2 ^ e, and n the whole part of m * 2 ^ e
+-- ---- floor. M is the size in units of a / d, which is cut, or rounded up
 below-part : (a d M u : ℕ) → 0 < d → 0 < u → a * u ≡ M * d → (a / d * u ≤ M) × (M < a / d * u + u)
 below-part a d M u d0 u0 e = (
   le-of-mul-le-mul-right (omega (arith, mul-le-mul-right u (div-mul-le-self a d))) d0,
@@ -110,26 +114,7 @@ above-part a d M u d0 u0 e =
       lt-of-mul-lt-mul-right d (omega (arith, e, mul-lt-mul-of-pos-right h u0)),
     )
 
--- n is a whole number that a float holds
-record Held (s : Bool) (n : ℕ) : Type 0 where
-  num : Num (round binary64 s n 1)
-  sign : sgn (round binary64 s n 1) ≡ s
-  size : mag (round binary64 s n 1) ≡ n * U
-
-held : (s : Bool) (n : ℕ) → Digits (n * U) → T (finite (round binary64 s n 1)) → Held s n
-held s n d f =
-    let r = rounded s n 1 (lit< tt) f in
-    record { num = r .num; sign = r .sign; size = same (n * U) r d (sym (mul-one (n * U))) }
-
-small-held : (s : Bool) (n : ℕ) → n < E → Held s n
-small-held s n h = held s n (digits-whole n h) (round-bounded s n 1 (lit< tt) (omega arith))
-
--- m * 2 ^ k, as it is in x
-own-held : (s : Bool) (n : ℕ) (x : Float) → Num x → mag x ≡ n * U → Held s n
-own-held s n x p e =
-    held s n (subst (λ (z : ℕ). Digits z) e (digits x p))
-    (subst (λ (z : Float). T (finite z)) (sym (round-same binary64 s n 1 (mag x) U (lit< tt) U-pos (sym (mul-one (mag x) ∙ e)))) (own-finite s x p))
-
+-- y is x cut down to n whole ones
 pub record Floored (x y : Float) : Type 0 where
   pub num : Num y
   pub n : ℕ
@@ -137,32 +122,23 @@ pub record Floored (x y : Float) : Type 0 where
   pub low : val y ≼ val x
   pub high : val x ≺ val y ⊕ nat U
 
-floored : (x : Float) (s : Bool) (n : ℕ) → sgn x ≡ s → Held s n → (val (round binary64 s n 1) ≡ signed s (n * U) → (val (round binary64 s n 1) ≼ val x) × (val x ≺ val (round binary64 s n 1) ⊕ nat U)) → Floored x (round binary64 s n 1)
-floored x s n e h f =
-    let v : val (round binary64 s n 1) ≡ signed s (n * U) = ap (λ (t : Bool). signed t (mag (round binary64 s n 1))) (h .sign) ∙ ap (λ (z : ℕ). signed s z) (h .size) in
-    let b = f v in
-    record { num = h .num; n = n; size = h .size; low = b .0; high = b .1 }
+-- by the value of y
+floored : (x y : Float) (s : Bool) (n : ℕ) → T (fits binary64 y) → HasValue y s n 1 → (val y ≡ signed s (n * U) → (val y ≼ val x) × (val x ≺ val y ⊕ nat U)) → Floored x y
+floored x y s n f v h =
+    let p : Num y = record { fit = f; fine = fine-of y s n 1 v } in
+    let m : mag y ≡ n * U = sym (mul-one (mag y)) ∙ value-mag y s n 1 p v in
+    let b = h (ap (λ (t : Bool). signed t (mag y)) (sgn-of y s n 1 v) ∙ ap (λ (z : ℕ). signed s z) m) in
+    record { num = p; n = n; size = m; low = b .0; high = b .1 }
 
--- with no digit below the point it is all there
-pos-size : (s : Bool) (m k : ℕ) → Num (fin s m (pos k)) → mag (fin s m (pos k)) ≡ m * 2 ^ k * U
-pos-size s m k p = sym (mul-one (mag (fin s m (pos k)))) ∙ sym (own (fin s m (pos k)) p .1)
+-- what is whole is its own floor
+whole-floored : (x : Float) (n : ℕ) → Num x → mag x ≡ n * U → Floored x x
+whole-floored x n p e = record { num = p; n = n; size = e; low = omega arith; high = omega (arith, U-pos) }
 
-floor-held : (m : ℕ) (e : ℤ) → Num (fin false m e) → Held false (m * up e / down e)
-floor-held m (pos k) p = own-held false (m * 2 ^ k / 1) (fin false m (pos k)) p (pos-size false m k p ∙ ap (λ (z : ℕ). z * U) (sym (div-one (m * 2 ^ k))))
-floor-held m (negsuc k) p = small-held false (m * 1 / 2 ^ suc k) (lt-of-le-of-lt (div-le-self (m * 1) (2 ^ suc k)) (omega (arith, significand false m (negsuc k) (p .fit))))
-
--- the least whole number of 2 ^ (k + 1) that reaches m is m at most
-above-le : (m d : ℕ) → 0 < m → 0 < d → (m * 1 + d - 1) / d ≤ m
-above-le m d m0 d0 = le-of-suc-le-suc (div-lt-iff-lt-mul d0 .1 (omega (arith, le-mul m d m0 d0)))
-  where
-    le-mul : (m d : ℕ) → 0 < m → 0 < d → m + d ≤ m * d + 1
-    le-mul zero d m0 d0 = absurd (omega (arith, m0))
-    le-mul (suc m) zero m0 d0 = absurd (omega (arith, d0))
-    le-mul (suc m) (suc d) m0 d0 = omega arith
-
-ceil-held : (m : ℕ) (e : ℤ) → 0 < m → Num (fin true m e) → Held true ((m * up e + down e - 1) / down e)
-ceil-held m (pos k) m0 p = own-held true ((m * 2 ^ k + 1 - 1) / 1) (fin true m (pos k)) p (pos-size true m k p ∙ ap (λ (z : ℕ). z * U) (sym (div-one (m * 2 ^ k + 1 - 1) ∙ add-sub-cancel (m * 2 ^ k) 1)))
-ceil-held m (negsuc k) m0 p = small-held true ((m * 1 + 2 ^ suc k - 1) / 2 ^ suc k) (lt-of-le-of-lt (above-le m (2 ^ suc k) m0 (pow-pos (suc k))) (significand true m (negsuc k) (p .fit)))
+large : (s : Bool) (m : ℕ) (e : ℤ) → Num (fin s (suc m) e) → Large (suc m) e → Floored (fin s (suc m) e) (floor (fin s (suc m) e))
+large s m (pos k) p h =
+    let x = fin s (suc m) (pos k) in
+    rw (floor-large s m (pos k) (p .fit) h) (whole-floored x (suc m * 2 ^ k) p (sym (mul-one (mag x)) ∙ sym (own x p .1)))
+large s m (negsuc k) p h = absurd (omega (arith, h, significand s (suc m) (negsuc k) (p .fit), pow-pos (suc k)))
 
 none : (s : Bool) (e : ℤ) → Num (fin s zero e) → mag (fin s zero e) ≡ 0 * U
 none s e p =
@@ -173,15 +149,21 @@ none s e p =
     zeros a b d = omega arith
 
 pub floor-law : (x : Float) → Num x → Floored x (floor x)
-unfolding floor sgn
+unfolding sgn under over
 floor-law nan p = absurd (p .fine)
 floor-law (inf s) p = absurd (p .fine)
-floor-law (fin s zero e) p = record { num = p; n = 0; size = none s e p; low = omega arith; high = omega (arith, U-pos) }
+floor-law (fin s zero e) p = unfold floor in whole-floored (fin s zero e) 0 p (none s e p)
 floor-law (fin false (suc m) e) p =
     let x = fin false (suc m) e in
     let b = below-part (suc m * up e) (down e) (mag x) U (down-pos e) U-pos (own x p .1) in
-    floored x false (suc m * up e / down e) refl (floor-held (suc m) e p) (λ v. rw v (omega (arith, b)))
+    elim (lt-or-le (suc m * up e) (2 ^ 53 * down e)) [
+      | inl l ↦ floored x (floor x) false (under (suc m) e) (floor-fits x (p .fit)) (floor-above m e l) (λ v. rw v (omega (arith, b)))
+      | inr l ↦ large false m e p l
+    ]
 floor-law (fin true (suc m) e) p =
     let x = fin true (suc m) e in
     let b = above-part (suc m * up e) (down e) (mag x) U (down-pos e) U-pos (own x p .1) in
-    floored x true ((suc m * up e + down e - 1) / down e) refl (ceil-held (suc m) e (omega arith) p) (λ v. rw v (omega (arith, b)))
+    elim (lt-or-le (suc m * up e) (2 ^ 53 * down e)) [
+      | inl l ↦ floored x (floor x) true (over (suc m) e) (floor-fits x (p .fit)) (floor-below m e l) (λ v. rw v (omega (arith, b)))
+      | inr l ↦ large true m e p l
+    ]
