@@ -1,16 +1,15 @@
 -- Sizes: `Sized x k` is a finite number of size k at most, k a whole number. Sums, differences, products and quotients of such are such, so they are neither NaN nor infinite.
 -- Rests on `Errors`: a whole number below 2 ^ 53 is not passed by rounding.
-use mathlib.Core.Path.{_≡_, refl, sym, ap, _∙_, subst}
+use mathlib.Core.Path.{sym, subst}
 use mathlib.Core.Bool.{Bool, true, false}
 use Prim.Native.Nat.{ℕ, zero, suc, _+_, _*_, _≤_, _<_}
-use native.Mathlib.Nat.{le-trans, le-of-lt, le-of-eq, mul-le-mul, mul-le-mul-left, mul-le-mul-right, le-of-mul-le-mul-right, mul-assoc}
+use native.Mathlib.Nat.{le-trans, le-of-lt, mul-le-mul, mul-le-mul-left, mul-le-mul-right}
 use native.Mathlib.Omega.{arith}
-use lib.Dec.{T, lit≤}
-use lib.Ieee.{Float, binary64, le, neg, fits}
-use lib.Ieee.Scale.{finite}
+use lib.Dec.{T}
+use lib.Ieee.{Float, binary64, neg, fits}
 use Rattle.float.specs.Ops.{_+ᶠ_, _-ᶠ_, _*ᶠ_, _/ᶠ_, _≤ᶠ_}
-use Rattle.rounding.specs.Signed.{Exact, signed, signed-le, _⊕_, _⊖_, _≼_}
-use Rattle.rounding.specs.Value.{U, U-pos, E, sgn, mag, val, Num, Digits, digits-whole, neg-num, neg-mag}
+use Rattle.rounding.specs.Signed.{signed, signed-le, _≼_}
+use Rattle.rounding.specs.Value.{U, U-pos, E, sgn, mag, Num, digits-whole, neg-num, neg-mag}
 use Rattle.rounding.specs.Comparison.{le→≼, between}
 use Rattle.rounding.specs.Rounded.{B}
 use Rattle.rounding.specs.Errors.{add-law, sub-law, mul-law, div-law}

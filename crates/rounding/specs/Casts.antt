@@ -5,12 +5,12 @@ use mathlib.Core.Bool.{Bool, true, false, cond}
 use Prim.Native.Nat.{ℕ, zero, suc, _+_, _-_, _*_, _/_, _^_, _≤_, _<_, min}
 use native.Mathlib.Nat.{le-of-lt, lt-of-le-of-lt, le-of-mul-le-mul-right, eq-of-mul-eq-mul-right, min-eq-left, div-eq-of-lt-le}
 use native.Mathlib.Omega.{arith}
-use lib.IntN.{ℤ, pos, negsuc, negℤ}
+use lib.IntN.{ℤ, pos, negℤ}
 use lib.Ieee.{Float, nan, inf, fin, up, down, neg, toUnsigned}
 use lib.Ieee.Exact.{HasValue}
 use Rattle.float.specs.Whole.{floor, ceil, as-i64, as-usize}
 use Rattle.float.specs.Laws.Whole.{signed-value, unsigned-value}
-use Rattle.rounding.specs.Signed.{Exact, signed, scaled, nat, opp, plain, _⊕_, _⊗_, _≈_, _≼_, _≺_}
+use Rattle.rounding.specs.Signed.{Exact, signed, scaled, nat, opp, plain, _⊕_, _≈_, _≼_, _≺_}
 use Rattle.rounding.specs.Value.{U, U-pos, sgn, mag, val, Num, own, neg-num, neg-mag, neg-val}
 use Rattle.rounding.specs.Whole.{int, ones, floor-law}
 

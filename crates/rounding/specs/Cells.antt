@@ -1,22 +1,22 @@
 -- CELLS: two points whose computed cell numbers, floor((x - min) / cell), differ by two or more along an axis are at least the cell's size less 2 ^ -30 apart.
 -- Rests on `Casts` (floor) and `Errors`. Coordinates are 65,536 at most and a cell 2 ^ -20 to 65,536: a spacing is 2 ^ -20 to 34,816, so no number saturates.
-use mathlib.Core.Path.{_≡_, refl, sym, ap, _∙_, subst}
+use mathlib.Core.Path.{_≡_, refl, ap, _∙_, subst}
 use mathlib.Core.Logic.{_⊎_, inl, inr}
 use mathlib.Core.Bool.{Bool, true, false}
-use Prim.Native.Nat.{ℕ, zero, suc, _+_, _-_, _*_, _≤_, _<_}
-use native.Mathlib.Nat.{le-trans, le-of-mul-le-mul-right, mul-le-mul-right, mul-le-mul-left, mul-pos}
+use Prim.Native.Nat.{ℕ, _+_, _*_, _≤_, _<_}
+use native.Mathlib.Nat.{le-of-mul-le-mul-right, mul-le-mul-right}
 use native.Mathlib.Omega.{arith}
 use lib.IntN.{ℤ}
-use lib.Dec.{T, lit<, lit≤}
+use lib.Dec.{lit<}
 use lib.Ieee.{Float, unlike}
 use Rattle.float.specs.Ops.{_-ᶠ_, _/ᶠ_}
 use Rattle.float.specs.Whole.{floor, as-i64}
-use Rattle.rounding.specs.Signed.{Exact, signed, signed-le, nat, plain, abs, _⊕_, _⊖_, _⊗_, _≈_, _≼_, _≺_}
-use Rattle.rounding.specs.Relative.{Near, Close, close-wider, close-signed}
-use Rattle.rounding.specs.Value.{U, U-pos, E, H, sgn, mag, val, Num}
-use Rattle.rounding.specs.Errors.{Rounding, sub-of-finite, Quotient, div-of-finite}
+use Rattle.rounding.specs.Signed.{Exact, signed, signed-le, nat, abs, _⊕_, _⊖_, _⊗_, _≼_, _≺_}
+use Rattle.rounding.specs.Relative.{Close, close-wider, close-signed}
+use Rattle.rounding.specs.Value.{U, U-pos, E, H, sgn, mag, val}
+use Rattle.rounding.specs.Errors.{sub-of-finite, div-of-finite}
 use Rattle.rounding.specs.Bounds.{Sized, sub-sized, div-sized}
-use Rattle.rounding.specs.Whole.{int, ones}
+use Rattle.rounding.specs.Whole.{int}
 use Rattle.rounding.specs.Casts.{IsFloor, floor-i64}
 use Rattle.rounding.specs.Distance.{Length, length-above, length-plus, tiny, tiny-is, tiny-big, gap, gap-of, gap-sym, Spaced, spaced-across, spaced-along}
 

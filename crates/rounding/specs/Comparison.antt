@@ -1,9 +1,9 @@
 -- `lt`, `le` and `eq` of finite f64s are the order of their exact values, both ways; and what lies between two finite values is finite.
 -- Rests on `Value`: the two numbers over one denominator.
-use mathlib.Core.Path.{_≡_, refl, sym, ap, _∙_, subst}
+use mathlib.Core.Path.{_≡_, sym, ap, _∙_}
 use mathlib.Core.Logic.{inl, inr}
 use mathlib.Core.Bool.{Bool, true, false, not}
-use Prim.Native.Nat.{ℕ, zero, suc, _+_, _*_, _≤_, _<_}
+use Prim.Native.Nat.{ℕ, _+_, _*_, _≤_, _<_}
 use native.Mathlib.Nat.{le-of-eq, le-of-mul-le-mul-right, mul-le-mul-right, mul-pos, lt-of-not-le, not-le-of-lt, eq-of-mul-eq-mul-right}
 use native.Mathlib.Omega.{arith}
 use lib.Dec.{T, eqb, ltb→lt, nltb→le, eqb→eq, T-not}
@@ -11,7 +11,7 @@ use lib.Ieee.{Float, nan, inf, fin, up, down, below, level, lt, eq, le}
 use lib.Ieee.Fits.{down-pos, and-l, and-r, and-i, eq→eqb}
 use lib.Ieee.Scale.{finite}
 use Rattle.laws.specs.Truth.{or-split, nor-l, nor-r}
-use Rattle.rounding.specs.Signed.{Exact, signed, _≈_, _≼_, _≺_}
+use Rattle.rounding.specs.Signed.{signed, _≈_, _≼_, _≺_}
 use Rattle.rounding.specs.Value.{U, U-pos, sgn, mag, val, Num, own}
 
 -- ---- k / de and k / dd over the denominator de * dd

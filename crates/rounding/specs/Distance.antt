@@ -1,8 +1,8 @@
 -- The words of the spacing claim: the exact distance of two points, compared by squares with a spacing less 2 ^ -30.
 -- Rests on `Value`; the laws are over whole numbers.
-use mathlib.Core.Path.{_≡_, refl, sym, ap, _∙_, subst}
+use mathlib.Core.Path.{_≡_, refl}
 use mathlib.Core.Logic.{inl, inr}
-use mathlib.Core.Bool.{Bool, true, false}
+use mathlib.Core.Bool.{false}
 use Prim.Native.Nat.{ℕ, zero, suc, _+_, _-_, _*_, _^_, _≤_, _<_}
 use native.Mathlib.Nat.{le-trans, le-of-lt, le-of-suc-le-suc, lt-of-not-le, mul-le-mul, mul-le-mul-right, sub-eq-zero-of-le}
 use native.Mathlib.Omega.{arith}
@@ -10,7 +10,7 @@ use lib.Dec.{lit≤}
 use lib.Ieee.{Float}
 use Rattle.laws.specs.Orders.{lt-or-le}
 use Rattle.float.specs.Laws.Floor.{root-lt}
-use Rattle.rounding.specs.Signed.{Exact, signed, signed-le, nat, apart, _⊕_, _⊖_, _≼_}
+use Rattle.rounding.specs.Signed.{signed-le, nat, apart, _⊕_, _≼_}
 use Rattle.rounding.specs.Value.{U, U-pos, sgn, mag, val}
 use Rattle.rounding.specs.Bounds.{Sized}
 use Rattle.rounding.specs.Signs.{Nonneg, positive}

@@ -1,12 +1,12 @@
 -- The error of one add, subtract, multiply and divide, with sign and order, where the result is finite; and bounds under which it is.
 -- Rests on `Operations` (one rounding each) and `Rounded` (what that does).
-use mathlib.Core.Path.{_≡_, refl, sym, ap, _∙_, subst}
-use mathlib.Core.Bool.{Bool, true, false, not}
-use Prim.Native.Nat.{ℕ, _+_, _-_, _*_, _≤_, _<_}
-use native.Mathlib.Nat.{le-trans, le-of-mul-le-mul-right, mul-le-mul-right, mul-pos, mul-assoc}
+use mathlib.Core.Path.{_≡_, sym, subst}
+use mathlib.Core.Bool.{Bool, true, false}
+use Prim.Native.Nat.{ℕ, _+_, _*_, _≤_, _<_}
+use native.Mathlib.Nat.{mul-le-mul-right, mul-pos}
 use native.Mathlib.Omega.{arith}
 use lib.Dec.{T}
-use lib.Ieee.{Float, binary64, round, unlike}
+use lib.Ieee.{Float, unlike}
 use lib.Ieee.Scale.{finite}
 use Rattle.float.specs.Ops.{_+ᶠ_, _-ᶠ_, _*ᶠ_, _/ᶠ_}
 use Rattle.rounding.specs.Signed.{Exact, signed, _⊕_, _⊖_, _≈_, _≼_, abs, abs-of, signed-le}

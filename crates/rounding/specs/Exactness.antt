@@ -1,9 +1,9 @@
 -- Where nothing is lost: sums and differences of multiples of 2 ^ j units whose counts stay below 2 ^ 53, and products and halves of such.
 -- Rests on `Errors`: a result of 53 digits does not change. j is 1,064 for 1 / 1,024 and 1,058 for 1 / 65,536.
-use mathlib.Core.Path.{_≡_, refl, sym, ap, _∙_, subst}
+use mathlib.Core.Path.{_≡_, sym, ap, _∙_}
 use mathlib.Core.Logic.{inl, inr}
 use mathlib.Core.Bool.{Bool, true, false, not}
-use Prim.Native.Nat.{ℕ, zero, suc, _+_, _-_, _*_, _^_, _≤_, _<_}
+use Prim.Native.Nat.{ℕ, _+_, _*_, _^_, _≤_, _<_}
 use native.Mathlib.Nat.{le-trans, le-of-eq, le-of-lt, le-antisymm, le-dest, le-of-mul-le-mul-right, lt-of-le-of-lt, add-mul, one-mul, mul-assoc, mul-le-mul, mul-le-mul-right, mul-mul-mul-comm}
 use native.Mathlib.Omega.{arith}
 use lib.IntN.{ℤ, natAbs}

@@ -1,22 +1,22 @@
 -- LATTICE: two different cells of a hexagonal or a rectangular lattice, each coordinate rounded as the source rounds it, are at least the spacing less 2 ^ -30 apart.
 -- Rests on `Steps` (where a point lies) and `Row` (the row height). Anchor and steps are 65,536 at most, so i is 2 ^ 36 at most and j 2 ^ 38: a job's are below 2 ^ 32.
-use mathlib.Core.Path.{_≡_, refl, sym, ap, _∙_, subst}
+use mathlib.Core.Path.{_≡_, refl, sym, ap, subst}
 use mathlib.Core.Logic.{_⊎_, inl, inr}
 use mathlib.Core.Bool.{Bool, true, false}
 use Prim.Native.Nat.{ℕ, zero, suc, _+_, _-_, _*_, _/_, _%_, _≤_, _<_}
 use native.Mathlib.Nat.{le-trans, le-of-lt, le-of-mul-le-mul-right, le-of-mul-le-mul-left, mul-le-mul, mul-le-mul-right, mul-le-mul-left, mul-pos, eq-or-lt-of-le, sub-eq-zero-of-le}
 use native.Mathlib.Omega.{arith}
 use lib.IntN.{ℤ, pos, negsuc}
-use lib.Dec.{T, eqb, lit<, lit≤}
+use lib.Dec.{eqb, lit<}
 use lib.Ieee.{Float}
 use Rattle.laws.specs.Orders.{lt-or-le}
 use Rattle.rounding.specs.Signed.{Exact, nat, _⊕_, _⊗_, _≈_, _≼_}
 use Rattle.rounding.specs.Relative.{Close}
-use Rattle.rounding.specs.Value.{U, E, H, sgn, mag, val}
+use Rattle.rounding.specs.Value.{U, E, H, mag, val}
 use Rattle.rounding.specs.Bounds.{Sized}
 use Rattle.rounding.specs.Whole.{int}
 use Rattle.rounding.specs.Distance.{Length, tiny, tiny-is, tiny-big, half, half-is, gap, gap-sym, short-by, distance², Spaced, spaced-sym, spaced-across, spaced-along}
-use Rattle.rounding.specs.Row.{k3, three-square, Step, length-step, hexRow, Row, row-law}
+use Rattle.rounding.specs.Row.{k3, three-square, Step, length-step, hexRow, row-law}
 use Rattle.rounding.specs.Steps.{Reach, across, along, offset, halves, halfSteps, across-close, along-close}
 
 -- j.rem_euclid(d)

@@ -1,6 +1,6 @@
 -- Rounding keeps the order: of two exact sums, products or quotients the smaller one comes out no larger.
 -- Rests on `Rounded` (`round` keeps the order of sizes) and `Operations`.
-use mathlib.Core.Path.{_≡_, refl, sym, subst}
+use mathlib.Core.Path.{subst}
 use mathlib.Core.Bool.{Bool, true, false}
 use Prim.Native.Nat.{ℕ, _+_, _*_, _≤_, _<_}
 use native.Mathlib.Nat.{mul-le-mul-right, mul-pos}
@@ -9,9 +9,9 @@ use lib.Dec.{T}
 use lib.Ieee.{Float, binary64, round, unlike}
 use lib.Ieee.Scale.{finite}
 use Rattle.float.specs.Ops.{_+ᶠ_, _-ᶠ_, _*ᶠ_, _/ᶠ_}
-use Rattle.rounding.specs.Signed.{Exact, signed, _⊕_, _⊖_, _≈_, _≼_}
+use Rattle.rounding.specs.Signed.{Exact, signed, _⊕_, _⊖_, _≼_}
 use Rattle.rounding.specs.Value.{U, U-pos, sgn, mag, val, Num, digits-zero}
-use Rattle.rounding.specs.Rounded.{round-mag, round-finite, rounded-units}
+use Rattle.rounding.specs.Rounded.{round-mag, rounded-units}
 use Rattle.rounding.specs.Operations.{IsRound, add-is, sub-is, mul-is, div-is}
 
 -- v and w units with signs, rounded

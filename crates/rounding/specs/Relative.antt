@@ -1,8 +1,7 @@
 -- Errors in proportion, and how they chain: `Near E k e a b` says that a and b agree but for k / E of either and e / E. E is 2 ^ 53 at every use.
 -- Rests on nothing.
-use mathlib.Core.Path.{_≡_}
 use mathlib.Core.Bool.{Bool, true, false}
-use Prim.Native.Nat.{ℕ, zero, suc, _+_, _-_, _*_, _≤_, _<_}
+use Prim.Native.Nat.{ℕ, _+_, _*_, _≤_, _<_}
 use native.Mathlib.Nat.{mul-le-mul-right, mul-le-mul-left, mul-le-mul, le-of-mul-le-mul-right, le-of-suc-le-suc, lt-of-not-le}
 use native.Mathlib.Omega.{arith}
 use Rattle.rounding.specs.Signed.{Exact, signed, abs, abs-scale}

@@ -2,13 +2,13 @@
 -- Rests on `Nearest` (how far), the kit's `round-mono` (the order) and `round-exact` (no change).
 use mathlib.Core.Path.{_≡_, refl, sym, ap, _∙_, subst}
 use mathlib.Core.Logic.{_⊎_, inl, inr}
-use mathlib.Core.Bool.{Bool, true, false, not, cond}
-use Prim.Native.Nat.{ℕ, suc, _+_, _-_, _*_, _/_, _%_, _^_, _≤_, _<_}
-use native.Mathlib.Nat.{le-trans, le-of-eq, le-of-lt, le-refl, le-antisymm, lt-of-lt-of-le, lt-of-not-le, not-le-of-lt, le-of-mul-le-mul-right, mul-le-mul-right, mul-comm, mul-assoc, mul-one, eq-of-mul-eq-mul-right}
+use mathlib.Core.Bool.{Bool, true, false, cond}
+use Prim.Native.Nat.{ℕ, suc, _+_, _*_, _^_, _≤_, _<_}
+use native.Mathlib.Nat.{le-trans, le-of-eq, le-of-lt, le-antisymm, lt-of-not-le, mul-le-mul-right}
 use native.Mathlib.Omega.{arith}
-use lib.Dec.{T, ltb, ltb→lt, nltb→le, lit<}
+use lib.Dec.{T, ltb, ltb→lt, lit<}
 use lib.Pow.{pow-pos}
-use lib.Ieee.{Float, nan, inf, fin, binary64, prec, emax, low, odd, units, round, le}
+use lib.Ieee.{Float, nan, inf, fin, binary64, prec, low, odd, units, round, le}
 use lib.Ieee.Fits.{round-is, round-fits}
 use lib.Ieee.Exact.{HasValue, units-val, round-exact}
 use lib.Ieee.Order.{drop, kept, round-mono}
@@ -17,7 +17,7 @@ use Rattle.laws.specs.Orders.{lt-or-le}
 use Rattle.rounding.specs.Signed.{signed}
 use Rattle.rounding.specs.Relative.{Near}
 use Rattle.rounding.specs.Nearest.{rounds, rounds-whole}
-use Rattle.rounding.specs.Value.{U, U-is, U-pos, E, H, sgn, mag, Num, Digits, digits, mag-under, mag-of, sgn-of, fine-of}
+use Rattle.rounding.specs.Value.{U, U-pos, E, H, sgn, mag, Num, Digits, digits, mag-under, mag-of, sgn-of, fine-of}
 use Rattle.rounding.specs.Comparison.{le→≼}
 
 -- ---- the result in units, where it is finite
@@ -52,6 +52,10 @@ made s num den h =
     of-value s num den (grid binary64 num den)
     (subst (λ (z : Float). HasValue z s (grid binary64 num den) (2 ^ low binary64)) (sym (round-is binary64 s num den))
     (units-val binary64 s (kept 53 (num * 2 ^ low binary64) den) (drop 53 (num * 2 ^ low binary64) den) h))
+
+-- finite, or the infinity of its sign: never a NaN
+pub round-case : (s : Bool) (num den : ℕ) → T (finite (round binary64 s num den)) ⊎ (round binary64 s num den ≡ inf s)
+round-case s num den = elim (grid-case s num den) [ inl h ↦ inl (made s num den h .num .fine) | inr e ↦ inr e ]
 
 -- ---- the order
 not-above : (y : Float) → T (finite y) → T (le (inf false) y) → ⊥

@@ -1,18 +1,17 @@
 -- The row height of a hexagonal lattice, s * sqrt(3) / 2 as the source rounds it: twice it is √3 times the spacing, but for 2 ^ -31.
 -- Rests on `Errors`; the root of 3 is computed.
 use mathlib.Core.Path.{_≡_, refl, sym, ap, ap₂, _∙_, subst}
-use mathlib.Core.Bool.{Bool, true, false}
-use Prim.Native.Nat.{ℕ, zero, suc, _+_, _-_, _*_, _^_, _≤_, _<_}
-use native.Mathlib.Nat.{le-trans, le-of-eq, le-of-mul-le-mul-right, mul-le-mul, mul-le-mul-right, mul-le-mul-left, mul-pos}
+use mathlib.Core.Bool.{false}
+use Prim.Native.Nat.{ℕ, _+_, _*_, _≤_, _<_}
+use native.Mathlib.Nat.{le-trans, le-of-eq, le-of-mul-le-mul-right, mul-le-mul-right, mul-le-mul-left, mul-pos}
 use native.Mathlib.Omega.{arith}
 use lib.Dec.{T, lit<, lit≤}
-use lib.Ieee.{Float, binary64, unlike, ofBits, fits}
+use lib.Ieee.{Float, unlike, ofBits, fits}
 use Rattle.float.specs.Ops.{_*ᶠ_, _/ᶠ_, literal, 2ᶠ}
 use Rattle.float.specs.Order.{sqrt}
 use Rattle.float.specs.Root.{rootOf}
-use Rattle.rounding.specs.Signed.{nat, _≼_}
 use Rattle.rounding.specs.Relative.{Under}
-use Rattle.rounding.specs.Value.{U, U-pos, E, H, sgn, mag, val, Num, Digits, digits-whole}
+use Rattle.rounding.specs.Value.{U, U-pos, E, H, sgn, mag, Num, digits-whole}
 use Rattle.rounding.specs.Errors.{mul-of-finite, div-law}
 use Rattle.rounding.specs.Bounds.{Sized, mul-sized}
 use Rattle.rounding.specs.Distance.{Length, length-plus, tiny-is, tiny-big, half, half-is}

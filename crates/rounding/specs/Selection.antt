@@ -1,17 +1,16 @@
 -- abs, min and max of finite numbers, by their exact values.
 -- Rests on `Comparison`.
-use mathlib.Core.Path.{_≡_, refl, sym, ap, _∙_, subst}
+use mathlib.Core.Path.{_≡_, refl, sym, subst}
 use mathlib.Core.Logic.{_⊎_, inl, inr}
 use mathlib.Core.Bool.{Bool, true, false, not, cond}
-use Prim.Native.Nat.{ℕ, _+_, _≤_}
 use native.Mathlib.Omega.{arith}
 use lib.Dec.{T}
-use lib.Ieee.{Float, nan, inf, fin, binary64, neg, lt, isNan, fits}
+use lib.Ieee.{Float, nan, inf, fin, neg, isNan}
 use lib.Ieee.Scale.{finite}
 use Rattle.float.specs.Ops.{_<ᶠ_, 0ᶠ}
 use Rattle.float.specs.Order.{abs, min, max}
-use Rattle.rounding.specs.Signed.{Exact, nat, _≼_, _≺_}
-use Rattle.rounding.specs.Value.{U, sgn, mag, val, Num, neg-num}
+use Rattle.rounding.specs.Signed.{_≼_, _≺_}
+use Rattle.rounding.specs.Value.{sgn, mag, val, Num, neg-num}
 use Rattle.rounding.specs.Comparison.{lt→≺, ¬lt→≼}
 use Rattle.rounding.specs.Signs.{Nonneg, zero-num, zero-val}
 

@@ -1,23 +1,24 @@
 -- A share n * max(w / total, 0), each operation rounded and the total too, against the exact share n * w / sum: 2 ^ -25 away at most.
 -- Rests on `Errors` and `Relative`: a sum of up to 16 numbers is off by 32 / 2 ^ 53 at most, and n is 2,000 at most.
-use mathlib.Core.Path.{_≡_, refl, sym, ap, _∙_, subst}
-use mathlib.Core.Bool.{Bool, true, false}
+use mathlib.Core.Path.{_≡_, sym, subst}
+use mathlib.Core.Bool.{true, false}
 use mathlib.Core.List.{List, [], _∷_, foldl}
-use Prim.Native.Nat.{ℕ, zero, suc, _+_, _-_, _*_, _/_, _%_, _≤_, _<_}
-use native.Mathlib.Nat.{le-trans, le-of-eq, le-of-lt, le-of-mul-le-mul-right, mul-le-mul, mul-le-mul-right, mul-le-mul-left, mul-pos, mul-right-comm, add-assoc}
+use Prim.Native.Nat.{ℕ, suc, _+_, _*_, _≤_, _<_}
+use native.Mathlib.Nat.{le-of-mul-le-mul-right, mul-le-mul, mul-le-mul-right, mul-le-mul-left, mul-pos, add-assoc}
 use native.Mathlib.Omega.{arith}
 use lib.IntN.{pos}
 use lib.Dec.{T, lit<, lit≤}
 use lib.ListN.{length}
-use lib.Ieee.{Float, nan, inf, fin, binary64, add, neg, ofBits, fits}
+use lib.Ieee.{Float, nan, inf, fin, add, neg, ofBits, fits}
 use lib.Ieee.Scale.{finite}
 use Rattle.float.specs.Ops.{_+ᶠ_, _*ᶠ_, _/ᶠ_, 0ᶠ, -0ᶠ}
 use Rattle.float.specs.Order.{max}
 use Rattle.float.specs.Whole.{as-f64}
-use Rattle.rounding.specs.Signed.{Exact, signed, plain, nat, _⊕_, _≈_, _≼_}
+use Rattle.rounding.specs.Signed.{plain, nat, _⊕_, _≈_}
 use Rattle.rounding.specs.Relative.{Under, Near, twice, wider, chain, scale}
 use Rattle.rounding.specs.Value.{U, U-pos, E, H, sgn, mag, val, Num}
 use Rattle.rounding.specs.Errors.{add-of-finite, mul-law, div-law}
+use Rattle.rounding.specs.Bounds.{Sized, add-sized, wider as widen}
 use Rattle.rounding.specs.Signs.{Nonneg, rounding-nonneg, product-nonneg, quotient-nonneg}
 use Rattle.rounding.specs.Selection.{max-zero-same}
 use Rattle.rounding.specs.Whole.{ofInt-exact, whole-product}
@@ -84,9 +85,14 @@ fold-total acc (w ∷ ws) k A h t (more p ps) f =
     let c : 1 + k + 1 + 2 * length ws ≡ k + 2 * suc (length ws) = omega arith in
     subst (λ (v : ℕ). Total z (k + 2 * suc (length ws)) v) (add-assoc A (mag w) (sum ws)) (subst (λ (v : ℕ). Total z v (A + mag w + sum ws)) c r)
 
-minus-zero : Total -0ᶠ 0 0
+-- where a sum starts
+pub minus-zero : Weight -0ᶠ
 unfolding ofBits neg fits sgn mag U
-minus-zero = record { num = record { fit = tt; fine = tt }; nonneg = lit≤ tt; near = record { above = lit≤ tt; below = lit≤ tt } }
+minus-zero = record { num = record { fit = tt; fine = tt }; nonneg = lit≤ tt }
+
+start : Total -0ᶠ 0 0
+unfolding ofBits neg mag U
+start = record { num = minus-zero .num; nonneg = minus-zero .nonneg; near = record { above = lit≤ tt; below = lit≤ tt } }
 
 -- weights.iter().sum(), of 16 at most
 pub record Summed (z : Float) (W : ℕ) : Type 0 where
@@ -97,7 +103,7 @@ pub record Summed (z : Float) (W : ℕ) : Type 0 where
 pub summed : (ws : List Float) → length ws ≤ 16 → Weights ws → T (finite (foldl _+ᶠ_ -0ᶠ ws)) → Summed (foldl _+ᶠ_ -0ᶠ ws) (sum ws)
 summed ws h ps f =
     let z = foldl _+ᶠ_ -0ᶠ ws in
-    let t = fold-total -0ᶠ ws 0 0 (omega (arith, h)) minus-zero ps f in
+    let t = fold-total -0ᶠ ws 0 0 (omega (arith, h)) start ps f in
     record {
       num = t .num;
       nonneg = t .nonneg;
@@ -106,6 +112,18 @@ summed ws h ps f =
         below = omega (arith, wider E (lit< tt) (0 + 2 * length ws) 32 0 0 (0 + sum ws) (mag z) (omega (arith, h)) (lit≤ tt) (t .near .below));
       };
     }
+
+-- bounds under which the sum is finite
+pub data All (k : ℕ) : List Float → Type 0 where
+  none : All k []
+  more : {w : Float} {ws : List Float} → Sized w k → All k ws → All k (w ∷ ws)
+
+fold-sized : (acc : Float) (a k : ℕ) (ws : List Float) → Sized acc a → All k ws → a + length ws * k < E → Sized (foldl _+ᶠ_ acc ws) (a + length ws * k)
+fold-sized acc a k [] s none h = widen (omega arith) s
+fold-sized acc a k (w ∷ ws) s (more p ps) h = widen (omega arith) (fold-sized (acc +ᶠ w) (a + k) k ws (add-sized s p (omega (arith, h))) ps (omega (arith, h)))
+
+pub total-sized : (k : ℕ) (ws : List Float) → All k ws → length ws * k < E → Sized (foldl _+ᶠ_ -0ᶠ ws) (length ws * k)
+total-sized k ws ps h = widen (omega arith) (fold-sized -0ᶠ 0 k ws (record { num = minus-zero .num; size = unfold ofBits neg mag U in lit≤ tt }) ps (omega (arith, h)))
 
 -- ---- numbers only: d is w / T rounded, z is N * d rounded, T is W rounded. h stands for H, h * 2 for E
 module _ (h z N d T w u W : ℕ) (h0 : 0 < h) (few : 96 ≤ h * 2) (q : Near (h * 2) 1 (T * h) (d * T) (w * u)) (p : Near (h * 2) 1 h z (N * d)) (t : Near (h * 2) 32 0 T W) where

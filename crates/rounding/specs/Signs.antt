@@ -1,8 +1,9 @@
 -- Numbers that are not negative: sums, products, quotients and squares of such are such; a difference in order is; x - x is +0.
 -- Rests on `Errors`: 0 has 53 digits, so rounding does not pass it.
-use mathlib.Core.Path.{_≡_, refl, sym, ap, _∙_, subst}
-use mathlib.Core.Bool.{Bool, true, false, not, cond, _&&_}
-use Prim.Native.Nat.{ℕ, zero, suc, _+_, _-_, _*_, _≤_, _<_}
+use mathlib.Core.Path.{_≡_, refl, _∙_}
+use mathlib.Core.Logic.{_⊎_, inl, inr}
+use mathlib.Core.Bool.{Bool, true, false, not}
+use Prim.Native.Nat.{ℕ, _*_, _≤_, _<_}
 use native.Mathlib.Nat.{lt-irrefl, sub-self, mul-pos}
 use native.Mathlib.Omega.{arith}
 use lib.Dec.{T, ltb, ltb→lt, not-T, lit<}
@@ -10,9 +11,11 @@ use lib.Ieee.{Float, nan, inf, fin, binary64, up, down, round, sum, add, sub, ne
 use lib.Ieee.Bits.{is-false}
 use lib.Ieee.Fits.{down-pos}
 use lib.Ieee.Scale.{finite, round-same}
-use Rattle.float.specs.Ops.{_+ᶠ_, _-ᶠ_, _*ᶠ_, _/ᶠ_, 0ᶠ}
-use Rattle.rounding.specs.Signed.{Exact, signed, nat, _⊕_, _≈_, _≼_}
-use Rattle.rounding.specs.Value.{U, sgn, mag, val, Num, digits-zero}
+use Rattle.float.specs.Ops.{_+ᶠ_, _-ᶠ_, 0ᶠ}
+use Rattle.rounding.specs.Signed.{Exact, signed, nat, _⊕_, _≼_}
+use Rattle.rounding.specs.Value.{U, U-pos, sgn, mag, val, Num, digits-zero}
+use Rattle.rounding.specs.Rounded.{round-case, round-bounded}
+use Rattle.rounding.specs.Operations.{IsRound, add-is}
 use Rattle.rounding.specs.Errors.{Rounding, Product, Quotient}
 
 abbrev pub Nonneg : Float → Type 0
@@ -72,6 +75,17 @@ module _ (x y z : Float) where
 
 pub square-plus : {x z : Float} → Product x x z → sgn z ≡ false
 square-plus {x} r = r .sign ∙ like (sgn x)
+
+-- a sum that is not negative is finite or +∞
+pub add-case : (x y : Float) → Num x → Num y → Nonneg x → Nonneg y → T (finite (x +ᶠ y)) ⊎ (x +ᶠ y ≡ inf false)
+add-case x y p q o o' = go (add-is x y p q)
+  where
+    at : (z : Float) (s : Bool) (w : ℕ) → z ≡ round binary64 s w U → nat 0 ≼ signed s w → T (finite z) ⊎ (z ≡ inf false)
+    at z false w e h = elim (round-case false w U) [ inl f ↦ inl (rw e f) | inr f ↦ inr (e ∙ f) ]
+    at z true w e h = inl (rw e (round-bounded true w U U-pos (omega (arith, h))))
+
+    go : IsRound (x +ᶠ y) (val x ⊕ val y) → T (finite (x +ᶠ y)) ⊎ (x +ᶠ y ≡ inf false)
+    go r = at (x +ᶠ y) (r .sign) (r .size) (r .is) (omega (arith, r .value, o, o'))
 
 -- ---- x - x
 no-less : (a : ℕ) → ltb a a ≡ false

@@ -1,20 +1,20 @@
 -- SPACING FROM SQUARES: where the computed squared distance of two points is at least the computed spacing squared, their exact distance is at least the spacing less 2 ^ -30.
 -- Rests on `Errors` and `Relative`. Coordinates and spacing are 65,536 at most: a job's are 1,024 and 34,816, and no candidate passes 36,000.
-use mathlib.Core.Path.{_≡_, refl, sym, ap, _∙_, subst}
+use mathlib.Core.Path.{_≡_, sym, ap, subst}
 use mathlib.Core.Logic.{_⊎_, inl, inr}
 use mathlib.Core.Bool.{Bool, true, false}
-use Prim.Native.Nat.{ℕ, zero, suc, _+_, _-_, _*_, _≤_, _<_}
+use Prim.Native.Nat.{ℕ, _+_, _-_, _*_, _≤_, _<_}
 use native.Mathlib.Nat.{le-of-lt, le-of-suc-le-suc, lt-of-not-le, mul-le-mul-right, mul-le-mul-left, mul-pos, sub-eq-zero-of-le}
 use native.Mathlib.Omega.{arith}
 use lib.Dec.{T, lit<, lit≤}
 use lib.Ieee.{Float}
 use Rattle.laws.specs.Orders.{lt-or-le}
 use Rattle.float.specs.Ops.{_+ᶠ_, _-ᶠ_, _*ᶠ_, _≥ᶠ_}
-use Rattle.rounding.specs.Signed.{Exact, signed, plain, _⊕_, _≈_, _≼_}
-use Rattle.rounding.specs.Relative.{Under, Near, chain, sum, scale, square}
-use Rattle.rounding.specs.Value.{U, U-pos, E, H, sgn, mag, val, Num}
+use Rattle.rounding.specs.Signed.{signed, _⊕_, _≼_}
+use Rattle.rounding.specs.Relative.{Under, Near, chain, square}
+use Rattle.rounding.specs.Value.{U, E, H, sgn, mag, Num}
 use Rattle.rounding.specs.Comparison.{le→≼}
-use Rattle.rounding.specs.Errors.{Rounding, add-of-finite, sub-of-finite, Product, mul-of-finite}
+use Rattle.rounding.specs.Errors.{Rounding, add-of-finite, sub-of-finite, mul-of-finite}
 use Rattle.rounding.specs.Bounds.{Sized, add-sized, sub-sized, mul-sized}
 use Rattle.rounding.specs.Signs.{square-plus}
 use Rattle.rounding.specs.Distance.{tiny, tiny-is, tiny-big, gap, distance², Spaced}

@@ -1,18 +1,16 @@
 -- The square root of a finite number that is not negative: how near, in order, and a number of 53 digits stays on its side.
 -- Rests on `Root`, the same for whole numbers of units squared, and the order of roots.
 use mathlib.Core.Path.{_≡_, refl, sym, ap, _∙_, subst}
-use mathlib.Core.Logic.{inl, inr}
 use mathlib.Core.Bool.{Bool, true, false}
-use Prim.Native.Nat.{ℕ, zero, suc, _+_, _*_, _/_, _^_, _≤_, _<_, zero-le}
-use native.Mathlib.Nat.{le-trans, le-of-eq, le-of-lt, lt-of-le-of-lt, le-antisymm, mul-assoc, mul-right-comm, mul-pos, mul-le-mul, mul-le-mul-right, mul-div-cancel, mul-lt-mul-of-pos-right, eq-or-lt-of-le, zero-mul, one-mul}
+use Prim.Native.Nat.{ℕ, zero, suc, _*_, _/_, _^_, _≤_, _<_, zero-le}
+use native.Mathlib.Nat.{le-trans, le-of-eq, le-of-lt, lt-of-le-of-lt, le-antisymm, mul-assoc, mul-right-comm, mul-pos, mul-le-mul-right, mul-div-cancel, zero-mul}
 use native.Mathlib.Omega.{arith}
-use lib.IntN.{ℤ, pos, negsuc}
+use lib.IntN.{ℤ}
 use lib.Dec.{T, lit<, lit≤}
-use lib.Pow.{pow-mono, pow-lt, pow-pos}
-use lib.Ieee.{Float, nan, inf, fin, binary64, prec, emax, low, up, down, le, fits}
+use lib.Ieee.{Float, nan, inf, fin, binary64, up, down, le}
 use lib.Ieee.Fits.{down-pos, up-pos}
 use lib.Ieee.Exact.{HasValue, units-val}
-use lib.Ieee.Scale.{finite, overflow}
+use lib.Ieee.Scale.{overflow}
 use Rattle.float.specs.Ops.{0ᶠ}
 use Rattle.float.specs.Order.{sqrt}
 use Rattle.float.specs.Root.{rootOf, nearestRoot}
@@ -20,8 +18,7 @@ use Rattle.float.specs.Laws.Fits.{rootOf-fits}
 use Rattle.float.specs.Laws.Zero.{origin, origin-is}
 use Rattle.float.specs.Laws.Monotone.{rootOf-mono}
 use Rattle.rounding.specs.Signed.{signed, plain, nat, _≼_}
-use Rattle.rounding.specs.Relative.{Under}
-use Rattle.rounding.specs.Value.{U, U-pos, E, H, sgn, mag, val, Num, Digits, digits-at, digits-zero, digits-whole, own, mag-of, sgn-of, fine-of, mag-under}
+use Rattle.rounding.specs.Value.{U, U-pos, E, sgn, mag, Num, Digits, digits-at, digits-zero, digits-whole, own, mag-of, sgn-of, fine-of, mag-under}
 use Rattle.rounding.specs.Comparison.{le→≼, ≼→le}
 use Rattle.rounding.specs.Signs.{Nonneg, zero-num, zero-val}
 use Rattle.rounding.specs.Bounds.{Sized}

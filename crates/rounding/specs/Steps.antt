@@ -1,17 +1,17 @@
 -- Where a lattice puts a point: anchor + offset + i * s across and anchor + j * h along, each operation rounded, against the exact places.
 -- Rests on `Errors`; whole numbers of steps are exact floats.
-use mathlib.Core.Path.{_≡_, refl, sym, ap, ap₂, _∙_, subst}
+use mathlib.Core.Path.{_≡_, ap, _∙_}
 use mathlib.Core.Bool.{Bool, true, false, cond}
-use Prim.Native.Nat.{ℕ, zero, suc, _+_, _-_, _*_, _≤_, _<_}
+use Prim.Native.Nat.{ℕ, _+_, _*_, _≤_, _<_}
 use native.Mathlib.Nat.{le-trans, le-of-eq, lt-of-le-of-lt, le-of-mul-le-mul-right, mul-le-mul-right, mul-le-mul-left, mul-right-comm}
 use native.Mathlib.Omega.{arith}
 use lib.IntN.{ℤ, natAbs}
-use lib.Dec.{T, lit<, lit≤}
-use lib.Ieee.{Float, binary64, ofInt, unlike, ofBits}
+use lib.Dec.{lit<}
+use lib.Ieee.{Float, binary64, ofInt, unlike}
 use Rattle.float.specs.Ops.{_+ᶠ_, _*ᶠ_, _/ᶠ_, 0ᶠ, 2ᶠ}
 use Rattle.rounding.specs.Signed.{Exact, signed, signed-le, scaled, nat, abs, _⊕_, _⊗_, _≈_}
 use Rattle.rounding.specs.Relative.{Near, cancel, Close, close-wider, close-signed}
-use Rattle.rounding.specs.Value.{U, U-pos, E, H, sgn, mag, val, Num, digits-whole}
+use Rattle.rounding.specs.Value.{U, U-pos, E, H, sgn, mag, val, digits-whole}
 use Rattle.rounding.specs.Errors.{add-of-finite, mul-law, div-law}
 use Rattle.rounding.specs.Bounds.{Sized, add-sized}
 use Rattle.rounding.specs.Signs.{zero-num, zero-mag, zero-val}

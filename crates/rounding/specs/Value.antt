@@ -1,8 +1,8 @@
 -- A finite f64 read as an exact number: a whole number of units of 2 ^ -1074, the least value above zero, with a sign. Of its size the 53 leading digits are all.
 -- Rests on the kit's `fits` and `HasValue`.
-use mathlib.Core.Path.{_≡_, refl, sym, ap, _∙_, subst}
+use mathlib.Core.Path.{_≡_, refl, sym, ap, _∙_}
 use mathlib.Core.Bool.{Bool, true, false, not, _&&_}
-use Prim.Native.Nat.{ℕ, zero, suc, _+_, _-_, _*_, _/_, _%_, _^_, _≤_, _<_, zero-le}
+use Prim.Native.Nat.{ℕ, zero, suc, _+_, _-_, _*_, _/_, _%_, _^_, _≤_, _<_}
 use native.Mathlib.Nat.{le-of-eq, le-of-suc-le-suc, lt-of-le-of-lt, lt-of-lt-of-le, lt-of-not-le, not-le-of-lt, lt-of-mul-lt-mul-right, mul-lt-mul-of-pos-right, mul-pos, mul-assoc, mul-comm, mul-right-comm, mul-one, zero-mul, mul-div-cancel, eq-of-mul-eq-mul-right}
 use native.Mathlib.Omega.{arith}
 use lib.IntN.{ℤ, pos, negsuc}
@@ -10,7 +10,7 @@ use lib.Dec.{T, ltb, eqb, leb, ltb→lt, leb→le, lit<}
 use lib.Pow.{pow-add, pow-pos, pow-lt}
 use lib.Ieee.{Float, nan, inf, fin, binary64, prec, emax, low, up, down, neg, fits}
 use lib.Ieee.Digits.{back}
-use lib.Ieee.Fits.{down-pos, and-l, and-r, neg-fits}
+use lib.Ieee.Fits.{down-pos, neg-fits}
 use lib.Ieee.Exact.{HasValue}
 use lib.Ieee.Scale.{overflow, finite}
 use Rattle.rounding.specs.Signed.{Exact, signed, opp}

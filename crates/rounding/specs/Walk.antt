@@ -1,25 +1,22 @@
 -- The numbers of the cells that a lattice walk visits, from floor(a / h) to ceil(b / h): they reach no further than 65,536, as `Lattice` asks.
 -- Rests on `Casts`. a and b are 24,576 at most (a box's side less offset and anchor: 1,024 + 17,408 + 1,024) and a step 36,864 (a spacing: 34,816).
-use mathlib.Core.Path.{_≡_, refl, sym, ap, _∙_, subst}
-use mathlib.Core.Logic.{inl, inr}
 use mathlib.Core.Bool.{Bool, true, false}
-use Prim.Native.Nat.{ℕ, zero, suc, _+_, _-_, _*_, _≤_, _<_}
+use Prim.Native.Nat.{ℕ, zero, suc, _+_, _*_, _≤_, _<_}
 use native.Mathlib.Nat.{le-trans, le-of-mul-le-mul-right, mul-le-mul-right, mul-le-mul-left, mul-pos}
 use native.Mathlib.Omega.{arith}
 use lib.IntN.{ℤ, pos, negsuc, natAbs}
 use lib.Dec.{T, lit<, lit≤}
 use lib.Signed.{leZ}
 use lib.Ieee.{Float}
-use Rattle.laws.specs.Orders.{lt-or-le}
 use Rattle.float.specs.Ops.{_/ᶠ_}
 use Rattle.float.specs.Whole.{floor, ceil, as-i64}
-use Rattle.rounding.specs.Signed.{Exact, signed, nat, _⊕_, _⊗_, _≼_, _≺_}
+use Rattle.rounding.specs.Signed.{signed, nat, _⊕_, _≼_, _≺_}
 use Rattle.rounding.specs.Relative.{Under}
-use Rattle.rounding.specs.Value.{U, U-pos, E, H, sgn, mag, val}
+use Rattle.rounding.specs.Value.{U, U-pos, H, sgn, mag}
 use Rattle.rounding.specs.Errors.{div-of-finite}
 use Rattle.rounding.specs.Bounds.{Sized, div-sized}
 use Rattle.rounding.specs.Whole.{int, ones, int-le}
-use Rattle.rounding.specs.Casts.{IsFloor, IsCeil, floor-i64, ceil-i64}
+use Rattle.rounding.specs.Casts.{floor-i64, ceil-i64}
 use Rattle.rounding.specs.Row.{Step}
 use Rattle.rounding.specs.Steps.{Reach}
 

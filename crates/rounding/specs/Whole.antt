@@ -1,6 +1,6 @@
 -- Whole numbers: an integer as a float, rounded or exact, a product with one, and floor as a whole number.
 -- Rests on `Errors` (53 digits do not change) and float's laws of floor.
-use mathlib.Core.Path.{_≡_, refl, sym, ap, _∙_, subst}
+use mathlib.Core.Path.{_≡_, refl, sym, ap, _∙_}
 use mathlib.Core.Logic.{inl, inr}
 use mathlib.Core.Bool.{Bool, true, false}
 use Prim.Native.Nat.{ℕ, zero, suc, _+_, _-_, _*_, _/_, _^_, _≤_, _<_}
