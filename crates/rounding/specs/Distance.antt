@@ -15,11 +15,14 @@ use Rattle.rounding.specs.Value.{U, U-pos, sgn, mag, val}
 use Rattle.rounding.specs.Bounds.{Sized}
 use Rattle.rounding.specs.Signs.{Nonneg, positive}
 
--- 2 ^ -30, in units
+-- 2 ^ -30 in units, and how many of it are 1
+abbrev pub fine : ℕ
+fine = 1073741824
+
 unfoldable pub tiny : ℕ
 tiny = 2 ^ 1044
 
-pub tiny-is : tiny * 1073741824 ≡ U
+pub tiny-is : tiny * fine ≡ U
 unfolding tiny U
 tiny-is = refl
 

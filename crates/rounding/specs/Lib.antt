@@ -23,3 +23,4 @@ pub mod Steps
 pub mod Lattice
 pub mod Walk
 pub mod Shares
+pub mod Examples

@@ -17,7 +17,7 @@ use Rattle.rounding.specs.Comparison.{le→≼}
 use Rattle.rounding.specs.Errors.{Rounding, add-of-finite, sub-of-finite, mul-of-finite}
 use Rattle.rounding.specs.Bounds.{Sized, add-sized, sub-sized, mul-sized}
 use Rattle.rounding.specs.Signs.{square-plus}
-use Rattle.rounding.specs.Distance.{tiny, tiny-is, tiny-big, gap, distance², Spaced}
+use Rattle.rounding.specs.Distance.{fine, tiny, tiny-is, tiny-big, gap, distance², Spaced}
 
 -- (x - x') * (x - x') + (y - y') * (y - y')
 abbrev pub computed : Float → Float → Float → Float → Float
@@ -37,24 +37,24 @@ module _ (X Y a b P Q R S Z u : ℕ) where
       omega (arith, chain E e0 1 7 (u * H) (0 + 2 * (2 * (u * H))) (S * S) (Z * u) (X * X + Y * Y) (lit≤ tt) (lit≤ tt) w i)
 
 -- A, P, C stand for r², r d, d², and e for E: `omega` multiplies its numerals, and stops at 38 digits
-clash : (e A P C d : ℕ) → (A + 2 * P + C) * e ≤ A * (e + 9) + 5368709120 * d * e → A ≤ 70368744177664 * P → 1099511627776 * d ≤ C → 0 < C → 1125899906842624 ≤ e → ⊥
+clash : (e A P C d : ℕ) → (A + 2 * P + C) * e ≤ A * (e + 9) + 5 * fine * d * e → A ≤ 65536 * fine * P → 1099511627776 * d ≤ C → 0 < C → 1125899906842624 ≤ e → ⊥
 clash e A P C d f a c c0 e0 =
-    let x : 10737418240 * (d * e) ≤ C * e = omega (arith, mul-le-mul-right e c) in
+    let x : 10 * fine * (d * e) ≤ C * e = omega (arith, mul-le-mul-right e c) in
     let y : 9 * A ≤ P * e = omega (arith, a, mul-le-mul-left P e0) in
     let z : 3 * C ≤ C * e = omega (arith, mul-le-mul-left C e0) in
     omega (arith, x, y, z, f, c0)
 
 -- D is the square of the exact distance, d is 2 ^ -30, and the spacing is r + d. h stands for H
-spread : (h r d D u : ℕ) → Under (h * 2) 9 (9 * (u * h)) ((r + d) * (r + d)) D → u ≡ d * 1073741824 → D ≤ r * r → (r * r + 2 * (r * d) + d * d) * (h * 2) ≤ r * r * (h * 2 + 9) + 5368709120 * d * (h * 2)
+spread : (h r d D u : ℕ) → Under (h * 2) 9 (9 * (u * h)) ((r + d) * (r + d)) D → u ≡ d * fine → D ≤ r * r → (r * r + 2 * (r * d) + d * d) * (h * 2) ≤ r * r * (h * 2 + 9) + 5 * fine * d * (h * 2)
 spread h r d D u f e l = omega (arith, f, ap (λ (z : ℕ). z * h) e, mul-le-mul-right (h * 2 + 9) l)
 
-last : (r d D u : ℕ) → Under E 9 (9 * (u * H)) ((r + d) * (r + d)) D → u ≡ d * 1073741824 → 1099511627776 ≤ d → r + d ≤ 65536 * u → r * r ≤ D
+last : (r d D u : ℕ) → Under E 9 (9 * (u * H)) ((r + d) * (r + d)) D → u ≡ d * fine → 1099511627776 ≤ d → r + d ≤ 65536 * u → r * r ≤ D
 last r d D u f e big small =
     le-of-suc-le-suc (lt-of-not-le (λ (g : D < r * r).
-    let sm : r ≤ 70368744177664 * d = omega (arith, e, small) in
+    let sm : r ≤ 65536 * fine * d = omega (arith, e, small) in
     clash E (r * r) (r * d) (d * d) d (spread H r d D u f e (le-of-lt g)) (scaled r d sm) (mul-le-mul-right d big) (mul-pos (omega (arith, big)) (omega (arith, big))) (lit≤ tt)))
   where
-    scaled : (r d : ℕ) → r ≤ 70368744177664 * d → r * r ≤ 70368744177664 * (r * d)
+    scaled : (r d : ℕ) → r ≤ 65536 * fine * d → r * r ≤ 65536 * fine * (r * d)
     scaled r d h = omega (arith, mul-le-mul-left r h)
 
 -- ---- the floats
