@@ -12,13 +12,7 @@ const LIBRARIES: [(&str, &str, &[&str]); 2] = [
     (
         "marks",
         "libmarks.a",
-        &[
-            "marks_root",
-            "marks_hash",
-            "marks_radical_inverse",
-            "marks_quotas",
-            "marks_plan",
-        ],
+        &["marks_root", "marks_hash", "marks_radical_inverse", "marks_quotas", "marks_plan"],
     ),
     (
         "probes",
@@ -45,10 +39,8 @@ fn main() {
     println!("cargo:rerun-if-env-changed=MARKS_LIBS");
     println!("cargo:rerun-if-changed=build.rs");
     let here = PathBuf::from(env::var("CARGO_MANIFEST_DIR").unwrap());
-    let folder = env::var("MARKS_LIBS").map_or_else(
-        |_| here.join("../../../target/staticlib"),
-        PathBuf::from,
-    );
+    let folder = env::var("MARKS_LIBS")
+        .map_or_else(|_| here.join("../../../target/staticlib"), PathBuf::from);
     for (program, library, symbols) in LIBRARIES {
         let file = folder.join(library);
         println!("cargo:rerun-if-changed={}", file.display());

@@ -2,6 +2,7 @@
 //! (default `../shared/docs/src` beside the repository), with the listed
 //! substitutions, and with the fault that `PLANT` names, if any.
 
+#[allow(dead_code)]
 #[path = "build/faults.rs"]
 mod faults;
 #[path = "build/parts.rs"]
@@ -24,10 +25,8 @@ fn main() {
     println!("cargo:rerun-if-changed=own");
     let here = PathBuf::from(env::var("CARGO_MANIFEST_DIR").unwrap());
     let out = PathBuf::from(env::var("OUT_DIR").unwrap());
-    let source = env::var("EUNOIA_SRC").map_or_else(
-        |_| here.join("../../../../shared/docs/src"),
-        PathBuf::from,
-    );
+    let source = env::var("EUNOIA_SRC")
+        .map_or_else(|_| here.join("../../../../shared/docs/src"), PathBuf::from);
     let plant = env::var("PLANT").ok().filter(|name| !name.is_empty());
     let mut planted = 0;
     let mut write = |name: &str, text: String| {
@@ -63,7 +62,8 @@ fn changed(file: &SourceFile, text: &str) -> String {
     let mut text = match &file.parts {
         Parts::Whole { after } => format!("{text}{after}"),
         Parts::Items { uses, items } => {
-            let items: Vec<String> = items.iter().map(|item| taken(file.path, text, item)).collect();
+            let items: Vec<String> =
+                items.iter().map(|item| taken(file.path, text, item)).collect();
             format!("{uses}\n{}", items.join("\n"))
         }
     };
@@ -80,22 +80,23 @@ fn taken(name: &str, text: &str, item: &Item) -> String {
         Item::Top(start) => text::take_item(name, text, start),
         Item::Methods { of, names } => {
             let block = text::take_item(name, text, of);
-            let methods: Vec<String> = names
-                .iter()
-                .map(|start| text::take_item(name, &block, start))
-                .collect();
+            let methods: Vec<String> =
+                names.iter().map(|start| text::take_item(name, &block, start)).collect();
             format!("{of}\n{}}}\n", methods.join("\n"))
         }
     }
 }
 
+/// The text with the named fault, if it is one of this file. Every fault of the
+/// file must find its place, so that the list does not fall behind.
 fn plant_fault(plant: Option<&str>, name: &str, text: String, planted: &mut usize) -> String {
-    let fault = faults::FAULTS
-        .iter()
-        .find(|fault| Some(fault.name) == plant && fault.file == name);
-    let Some(fault) = fault else {
-        return text;
-    };
-    *planted += 1;
-    text::substitute(name, &text, fault.find, fault.replace, 1)
+    let mut written = text.clone();
+    for fault in faults::faults().filter(|fault| fault.file == name) {
+        let faulty = text::substitute(name, &text, fault.find, fault.replace, 1);
+        if Some(fault.name) == plant {
+            *planted += 1;
+            written = faulty;
+        }
+    }
+    written
 }

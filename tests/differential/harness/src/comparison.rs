@@ -21,7 +21,8 @@ pub type Comparison = (&'static str, Option<fn(&Run) -> Tally>);
 macro_rules! where_present {
     ($cfg:ident, $function:path) => {{
         #[cfg($cfg)]
-        let function: Option<fn(&$crate::comparison::Run) -> $crate::tally::Tally> = Some($function);
+        let function: Option<fn(&$crate::comparison::Run) -> $crate::tally::Tally> =
+            Some($function);
         #[cfg(not($cfg))]
         let function: Option<fn(&$crate::comparison::Run) -> $crate::tally::Tally> = None;
         function
@@ -37,7 +38,8 @@ pub fn run(comparisons: &[Comparison]) -> ExitCode {
         jobs = wanted[at + 1].parse().expect("--jobs is followed by a number");
         wanted.drain(at..at + 2);
     }
-    let folder = |name: &str, default: &str| env::var_os(name).map_or_else(|| default.into(), PathBuf::from);
+    let folder =
+        |name: &str, default: &str| env::var_os(name).map_or_else(|| default.into(), PathBuf::from);
     let run = Run {
         jobs,
         kept: folder("DIFFERENT", "different"),

@@ -21,11 +21,7 @@ pub fn floor(number: u64) -> Option<Floor> {
     let (kind, seed, bytes) = generator::mixed(number);
     job::check_length(&bytes).ok()?;
     let job = job::read(&bytes).ok()?;
-    Some(Floor {
-        name: generator::name(kind, seed),
-        bytes,
-        job,
-    })
+    Some(Floor { name: generator::name(kind, seed), bytes, job })
 }
 
 /// A piece as the source has it, and as a port is lent it.

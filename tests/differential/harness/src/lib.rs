@@ -8,6 +8,6 @@ pub mod noticed;
 pub mod recorded;
 pub mod refusals;
 pub mod rng;
-pub mod tally;
 pub mod tables;
+pub mod tally;
 pub mod worked;

@@ -46,6 +46,11 @@ fn hash_of(number: u64) -> (String, u64) {
     (generator::name(kind, seed), given.as_ref().map_or(0, hash))
 }
 
+/// A planted fault may break an assertion, which counts as another answer.
+pub fn silence_panics() {
+    std::panic::set_hook(Box::new(|_| {}));
+}
+
 pub fn hashes(total: u64) -> Vec<u8> {
     (0..total).flat_map(|number| hash_of(number).1.to_be_bytes()).collect()
 }

@@ -5,6 +5,7 @@
 use oracle::judge::{Answer, Lent, Outcome, answer};
 
 use crate::generator::{self, KINDS};
+use crate::refusals;
 use crate::worked::example;
 
 pub struct Record {
@@ -27,6 +28,11 @@ pub fn record() -> String {
     let mut text = HEADING.to_string();
     text += &line("worked-example", &example().bytes());
     text += &line("empty-input", &[]);
+    for (name, job) in refusals::for_program() {
+        if job.len() <= LONGEST_JOB && !name.starts_with("cut-to") {
+            text += &line(&format!("at-limit-{name}"), &job);
+        }
+    }
     for (kind, (name, ..)) in KINDS.iter().enumerate() {
         let mut wanted = match *name {
             "limits" => 60,
@@ -81,10 +87,7 @@ pub fn parse(text: &str) -> Vec<Record> {
             Record {
                 name: name.to_string(),
                 job: unhex(job),
-                answer: Answer {
-                    outcome,
-                    trials: [count(free), count(with_obstacles)],
-                },
+                answer: Answer { outcome, trials: [count(free), count(with_obstacles)] },
             }
         })
         .collect()

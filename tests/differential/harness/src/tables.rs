@@ -2,7 +2,7 @@
 
 use std::fmt::Write;
 
-use oracle::faults::FAULTS;
+use oracle::faults::faults;
 use oracle::judge::{Lent, Outcome, answer};
 use oracle::substitutions::SUBSTITUTIONS;
 
@@ -13,21 +13,27 @@ fn cell(text: &str) -> String {
         return "nothing".to_string();
     }
     let text = text.trim_end_matches('\n');
-    let lines: Vec<String> = text.lines().map(|line| format!("`{}`", line.trim().replace('`', "'"))).collect();
+    let lines: Vec<String> =
+        text.lines().map(|line| format!("`{}`", line.trim().replace('`', "'"))).collect();
     lines.join("<br>").replace('|', "\\|")
 }
 
 pub fn substitutions() -> String {
-    let mut table = "| file | text | becomes | times | reason |\n|---|---|---|---|---|\n".to_string();
+    let mut table =
+        "| file | text | becomes | times | reason |\n|---|---|---|---|---|\n".to_string();
     for s in SUBSTITUTIONS {
         let (find, replace) = (cell(s.find), cell(s.replace));
-        writeln!(table, "| {} | {find} | {replace} | {} | {} |", s.file, s.times, s.reason).unwrap();
+        writeln!(table, "| {} | {find} | {replace} | {} | {} |", s.file, s.times, s.reason)
+            .unwrap();
     }
     table
 }
 
+/// A line for each fault: its name, and whether it shows in some answer.
 pub fn fault_names() -> String {
-    FAULTS.iter().map(|fault| format!("{}\n", fault.name)).collect()
+    faults()
+        .map(|fault| format!("{} {}\n", fault.name, if fault.shows { "shows" } else { "same" }))
+        .collect()
 }
 
 /// For each kind: jobs, sheets given, and how often each refusal came.
@@ -45,7 +51,8 @@ pub fn census(total: u64) -> String {
         };
         counts[kind][row] += 1;
     }
-    let mut table = "| kind | jobs | sheets | refused | ms a job |\n|---|---|---|---|---|\n".to_string();
+    let mut table =
+        "| kind | jobs | sheets | refused | ms a job |\n|---|---|---|---|---|\n".to_string();
     for (kind, (name, ..)) in KINDS.iter().enumerate() {
         let jobs: u64 = counts[kind].iter().sum();
         let refused: Vec<String> = (1..17)
@@ -53,7 +60,8 @@ pub fn census(total: u64) -> String {
             .map(|row| format!("{row}: {}", counts[kind][row]))
             .collect();
         let (sheets, mean) = (counts[kind][0], milliseconds[kind] / jobs.max(1) as f64);
-        writeln!(table, "| {name} | {jobs} | {sheets} | {} | {mean:.2} |", refused.join(", ")).unwrap();
+        writeln!(table, "| {name} | {jobs} | {sheets} | {} | {mean:.2} |", refused.join(", "))
+            .unwrap();
     }
     table
 }

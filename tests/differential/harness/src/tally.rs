@@ -15,12 +15,7 @@ const MOST_KEPT: u64 = 100;
 
 impl Tally {
     pub fn new(name: &str, folder: &Path) -> Self {
-        Self {
-            name: name.to_string(),
-            equal: 0,
-            different: 0,
-            folder: folder.to_path_buf(),
-        }
+        Self { name: name.to_string(), equal: 0, different: 0, folder: folder.to_path_buf() }
     }
 
     /// Counts a case; one that differs is kept under the given file name.

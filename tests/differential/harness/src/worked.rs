@@ -27,7 +27,8 @@ pub fn example() -> Draft {
     }
 }
 
-const EXAMPLE_SHEET: &str = "00000021013FF0000000000000000101410001000040140000000000004014000000000000";
+const EXAMPLE_SHEET: &str =
+    "00000021013FF0000000000000000101410001000040140000000000004014000000000000";
 
 pub fn check(tally: &mut Tally) {
     let sheet = match answer(&example().bytes(), Lent::PROGRAM).outcome {

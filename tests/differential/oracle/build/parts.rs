@@ -12,41 +12,24 @@ pub enum Parts {
     /// The whole file, and what is written after it.
     Whole { after: &'static str },
     /// Named items, under the given `use` lines.
-    Items {
-        uses: &'static str,
-        items: &'static [Item],
-    },
+    Items { uses: &'static str, items: &'static [Item] },
 }
 
 pub enum Item {
     /// An item at the left margin, named by the start of its first line.
     Top(&'static str),
     /// Some methods of an `impl` block, each named by the start of its line.
-    Methods {
-        of: &'static str,
-        names: &'static [&'static str],
-    },
+    Methods { of: &'static str, names: &'static [&'static str] },
 }
 
 pub const SOURCE_FILES: &[SourceFile] = &[
     SourceFile {
         path: "plotting/glyphs/discs.rs",
-        parts: Parts::Whole {
-            after: "\npub mod layers;\n",
-        },
+        parts: Parts::Whole { after: "\npub mod layers;\n" },
     },
-    SourceFile {
-        path: "plotting/glyphs/relax.rs",
-        parts: Parts::Whole { after: "" },
-    },
-    SourceFile {
-        path: "plotting/glyphs.rs",
-        parts: Parts::Whole { after: "" },
-    },
-    SourceFile {
-        path: "spec/combination.rs",
-        parts: Parts::Whole { after: "" },
-    },
+    SourceFile { path: "plotting/glyphs/relax.rs", parts: Parts::Whole { after: "" } },
+    SourceFile { path: "plotting/glyphs.rs", parts: Parts::Whole { after: "" } },
+    SourceFile { path: "spec/combination.rs", parts: Parts::Whole { after: "" } },
     SourceFile {
         path: "plotting/regions.rs",
         parts: Parts::Items {
@@ -79,11 +62,7 @@ pub const SOURCE_FILES: &[SourceFile] = &[
                 Item::Top("pub struct Polygon {"),
                 Item::Methods {
                     of: "impl Polygon {",
-                    names: &[
-                        "    pub fn new(",
-                        "    pub fn vertices(",
-                        "    pub fn area(",
-                    ],
+                    names: &["    pub fn new(", "    pub fn vertices(", "    pub fn area("],
                 },
             ],
         },

@@ -15,13 +15,7 @@ const fn change(
     times: usize,
     reason: &'static str,
 ) -> Substitution {
-    Substitution {
-        file,
-        find,
-        replace,
-        times,
-        reason,
-    }
+    Substitution { file, find, replace, times, reason }
 }
 
 const DISCS: &str = "plotting/glyphs/discs.rs";

@@ -3,10 +3,7 @@
 /// Replaces `find`, which must stand in `text` exactly `times` times.
 pub fn substitute(name: &str, text: &str, find: &str, replace: &str, times: usize) -> String {
     let found = text.matches(find).count();
-    assert!(
-        found == times,
-        "{name}: {find:?} must match {times} times and matches {found} times"
-    );
+    assert!(found == times, "{name}: {find:?} must match {times} times and matches {found} times");
     text.replace(find, replace)
 }
 
@@ -14,14 +11,8 @@ pub fn substitute(name: &str, text: &str, find: &str, replace: &str, times: usiz
 /// comments and attributes above it.
 pub fn take_item(name: &str, text: &str, start: &str) -> String {
     let lines: Vec<&str> = text.lines().collect();
-    let firsts: Vec<usize> = (0..lines.len())
-        .filter(|&i| lines[i].starts_with(start))
-        .collect();
-    assert!(
-        firsts.len() == 1,
-        "{name}: {start:?} must start one line and starts {}",
-        firsts.len()
-    );
+    let firsts: Vec<usize> = (0..lines.len()).filter(|&i| lines[i].starts_with(start)).collect();
+    assert!(firsts.len() == 1, "{name}: {start:?} must start one line and starts {}", firsts.len());
     let indent = &start[..start.len() - start.trim_start().len()];
     let belongs = |line: &str| {
         line.strip_prefix(indent)

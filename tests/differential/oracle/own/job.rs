@@ -71,11 +71,7 @@ pub fn read(bytes: &[u8]) -> Result<Job, u8> {
     if items.at < bytes.len() {
         return Err(7);
     }
-    Ok(Job {
-        head,
-        obstacles,
-        zones,
-    })
+    Ok(Job { head, obstacles, zones })
 }
 
 fn read_head(items: &mut Items) -> Result<Head, u8> {
@@ -87,16 +83,7 @@ fn read_head(items: &mut Items) -> Result<Head, u8> {
     let precision = within(items.u32()?, 1, 1_048_576, 4)?;
     let attempts = within(items.u32()?, 0, 2_000, 4)?;
     let seed = items.u64()?;
-    Ok(Head {
-        arrangement,
-        policy,
-        radius,
-        gap,
-        boundary_gap,
-        precision,
-        attempts,
-        seed,
-    })
+    Ok(Head { arrangement, policy, radius, gap, boundary_gap, precision, attempts, seed })
 }
 
 /// A kind, and a number that is 0 after kind 0.

@@ -23,11 +23,8 @@ pub struct Lent {
 
 impl Lent {
     /// What the job program lends: enough for every sheet.
-    pub const PROGRAM: Lent = Lent {
-        first: 8_000,
-        second: 8_000,
-        sheet: 15 + 64 * 37 + 2_000 * 16,
-    };
+    pub const PROGRAM: Lent =
+        Lent { first: 8_000, second: 8_000, sheet: 15 + 64 * 37 + 2_000 * 16 };
 }
 
 #[derive(Clone, Debug, PartialEq)]
@@ -45,14 +42,8 @@ pub struct Answer {
 
 pub fn answer(bytes: &[u8], lent: Lent) -> Answer {
     match sheet_of(bytes, lent) {
-        Ok((sheet, trials)) => Answer {
-            outcome: Outcome::Sheet(sheet),
-            trials,
-        },
-        Err(refusal) => Answer {
-            outcome: Outcome::Refused(refusal),
-            trials: [0, 0],
-        },
+        Ok((sheet, trials)) => Answer { outcome: Outcome::Sheet(sheet), trials },
+        Err(refusal) => Answer { outcome: Outcome::Refused(refusal), trials: [0, 0] },
     }
 }
 
@@ -144,10 +135,7 @@ pub fn piece_of(rings: &Piece) -> RegionPiece {
     let polygon = |ring: &Vec<[i32; 2]>| {
         Polygon::new(ring.iter().map(|[x, y]| Point::new(units(*x), units(*y))).collect())
     };
-    RegionPiece {
-        outer: polygon(&rings[0]),
-        holes: rings[1..].iter().map(polygon).collect(),
-    }
+    RegionPiece { outer: polygon(&rings[0]), holes: rings[1..].iter().map(polygon).collect() }
 }
 
 fn pieces_of(pieces: &[Piece]) -> Vec<RegionPiece> {

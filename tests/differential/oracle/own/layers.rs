@@ -66,10 +66,7 @@ pub fn pack_piece(piece: &RegionPiece, packing: &Packing) -> (Vec<Point>, u64) {
         gap: packing.gap,
         boundary_gap: packing.boundary_gap,
         obstacles: packing.obstacles,
-        mode: PackMode {
-            spread: packing.spread,
-            strict_obstacles: packing.strict,
-        },
+        mode: PackMode { spread: packing.spread, strict_obstacles: packing.strict },
     };
     let (n, precision) = (packing.quota, packing.precision);
     let mut rng = StdRng::seed_from_u64(packing.state);
@@ -77,9 +74,7 @@ pub fn pack_piece(piece: &RegionPiece, packing: &Packing) -> (Vec<Point>, u64) {
         GlyphArrangement::Uniform => pack_uniform_piece(piece, n, precision, ctx, false),
         GlyphArrangement::Rectangular => pack_uniform_piece(piece, n, precision, ctx, true),
         GlyphArrangement::LowDiscrepancy => pack_low_discrepancy_piece(piece, n, precision, ctx),
-        GlyphArrangement::Random => {
-            pack_random_piece(piece, n, packing.attempts, ctx, &mut rng)
-        }
+        GlyphArrangement::Random => pack_random_piece(piece, n, packing.attempts, ctx, &mut rng),
     };
     (spots, rng.state())
 }
@@ -95,14 +90,9 @@ pub fn relax_scatter(
 }
 
 /// The ceiling as `place_glyphs` asks for it, over the zones left in.
-pub fn ceiling(
-    zones: &[(String, Vec<RegionPiece>, usize)],
-    options: &GlyphOptions,
-) -> Option<f64> {
-    let work: Vec<(String, &Vec<RegionPiece>, usize)> = zones
-        .iter()
-        .map(|(key, pieces, n)| (key.clone(), pieces, *n))
-        .collect();
+pub fn ceiling(zones: &[(String, Vec<RegionPiece>, usize)], options: &GlyphOptions) -> Option<f64> {
+    let work: Vec<(String, &Vec<RegionPiece>, usize)> =
+        zones.iter().map(|(key, pieces, n)| (key.clone(), pieces, *n)).collect();
     let gap = options.boundary_gap.unwrap_or(options.gap);
     analytic_r_hi(&work, gap, options.precision)
 }

@@ -27,7 +27,5 @@ pub fn write(radius: f64, zones: &[ZoneSpots]) -> Vec<u8> {
 /// The buffer that row 14 asks for, over (key length, count) of each zone
 /// left in.
 pub fn buffer_for(zones: impl Iterator<Item = (usize, u16)>) -> usize {
-    15 + zones
-        .map(|(key_length, count)| 5 + key_length + 16 * usize::from(count))
-        .sum::<usize>()
+    15 + zones.map(|(key_length, count)| 5 + key_length + 16 * usize::from(count)).sum::<usize>()
 }

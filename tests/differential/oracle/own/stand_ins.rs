@@ -84,10 +84,7 @@ struct Waiting<T> {
 
 impl<T: Ord> WaitingCells<T> {
     pub fn new() -> Self {
-        Self {
-            heap: BinaryHeap::new(),
-            entered: 0,
-        }
+        Self { heap: BinaryHeap::new(), entered: 0 }
     }
 
     pub fn push(&mut self, cell: T) {
@@ -108,9 +105,7 @@ impl<T: Ord> WaitingCells<T> {
 
 impl<T: Ord> Ord for Waiting<T> {
     fn cmp(&self, other: &Self) -> Ordering {
-        self.cell
-            .cmp(&other.cell)
-            .then(other.entry.cmp(&self.entry))
+        self.cell.cmp(&other.cell).then(other.entry.cmp(&self.entry))
     }
 }
 

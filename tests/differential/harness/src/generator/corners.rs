@@ -7,11 +7,7 @@ use super::shapes::{self, Spot};
 use crate::rng::Rng;
 
 fn zone(draft: &mut Draft, key: &[u8], count: i64, pieces: Vec<super::draft::Piece>) {
-    draft.zones.push(DraftZone {
-        key: key.to_vec(),
-        count: count as u16,
-        pieces,
-    });
+    draft.zones.push(DraftZone { key: key.to_vec(), count: count as u16, pieces });
 }
 
 pub fn crowd(rng: &mut Rng) -> Draft {
@@ -180,5 +176,59 @@ pub fn walk(rng: &mut Rng) -> Draft {
     let ring = vec![[0, 0], [shaft, 0], [shaft, floor], [width, floor], [width, top], [0, top]];
     let marks = rng.between(1_500, 1_999);
     zone(&mut draft, &keys(rng, 1)[0], marks, vec![vec![ring]]);
+    draft
+}
+
+/// A zone whose ring is folded on one falling line, beside an ordinary zone:
+/// the added epsilon may put a point inside the fold.
+pub fn folded(rng: &mut Rng) -> Draft {
+    let mut draft = head(rng, 4_096, 2);
+    draft.radius = None;
+    draft.precision = rng.pick(&[1, 4]);
+    let (dx, dy) = rng.pick(&[(-1, 1), (-1, 1), (-1, 1), (-1, 3), (-3, 5)]);
+    let length = rng.between(20, 400);
+    let x = rng.between(-1_200, 1_200);
+    let y = rng.between(-2, 2) - dy * rng.between(1, length - 1);
+    let stops = [0, rng.between(1, length - 1), length, rng.between(1, length - 1)];
+    let ring = stops.map(|k| [(x + k * dx) as i32, (y + k * dy) as i32]);
+    let room = Spot { x: 9_000, y: 0, size: rng.between(1_024, 8_192) };
+    let marks = rng.between(1, 3);
+    zone(&mut draft, b"fold", rng.between(1, 3), vec![vec![ring.to_vec()]]);
+    zone(&mut draft, b"room", marks, vec![vec![shapes::square(room)]]);
+    draft
+}
+
+/// A floor in which the 1,024th candidate of the sequence, and none before
+/// it, is in the only room.
+pub fn budget(rng: &mut Rng) -> Draft {
+    let unit = rng.between(64, 1_000) as i32;
+    let mut draft = head(rng, i64::from(unit), 4);
+    draft.arrangement = 2;
+    draft.gap = 0;
+    draft.boundary_gap = None;
+    draft.radius = Some((unit / rng.pick(&[8, 16])) as u32);
+    let wide = 1_024 * unit;
+    let high = rng.between(i64::from(wide) / 2, i64::from(wide)) as i32;
+    let (mut index, mut weight, mut level) = (1_024, 1.0 / 3.0, 0.0);
+    while index > 0 {
+        level += f64::from(index % 3) * weight;
+        index /= 3;
+        weight /= 3.0;
+    }
+    let middle = (f64::from(high) * level) as i32;
+    let (low, top) = (middle - unit / 2, middle + unit / 2);
+    let ring = vec![
+        [0, 0],
+        [wide, 0],
+        [wide, 1],
+        [1, 1],
+        [1, low],
+        [unit, low],
+        [unit, top],
+        [1, top],
+        [1, high],
+        [0, high],
+    ];
+    zone(&mut draft, b"budget", rng.between(2, 10), vec![vec![ring]]);
     draft
 }

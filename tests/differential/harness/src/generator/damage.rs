@@ -85,18 +85,12 @@ fn sizes(rng: &mut Rng) -> Vec<u8> {
     let over = rng.index(2);
     let mut draft = good(rng);
     let piece = vec![vec![[0, 0], [9_000, 0], [9_000, 8_000], [0, 8_000]]];
-    let zone = |key: &[u8], count, pieces| DraftZone {
-        key: key.to_vec(),
-        count,
-        pieces,
-    };
+    let zone = |key: &[u8], count, pieces| DraftZone { key: key.to_vec(), count, pieces };
     match rng.index(11) {
         0 => draft.obstacles = vec![[0, 0, 300, 300]; 64 + over],
         1 => {
-            draft.zones = kinds::keys(rng, 64 + over)
-                .iter()
-                .map(|key| zone(key, 0, vec![]))
-                .collect();
+            draft.zones =
+                kinds::keys(rng, 64 + over).iter().map(|key| zone(key, 0, vec![])).collect();
         }
         2 => draft.zones = vec![zone(&[b'k'; 33][..32 + over], 1, vec![piece])],
         3 => draft.zones = vec![zone(b"a", 3, vec![piece; 16 + over])],
@@ -112,7 +106,8 @@ fn sizes(rng: &mut Rng) -> Vec<u8> {
         }
         7 => draft.zones = vec![zone(b"a", 2_000 + over as u16, vec![])],
         8 => {
-            let (first, second) = rng.pick(&[("a", "a"), ("a", "ab"), ("ab", "a"), ("b", "a"), ("Z", "a")]);
+            let (first, second) =
+                rng.pick(&[("a", "a"), ("a", "ab"), ("ab", "a"), ("b", "a"), ("Z", "a")]);
             draft.zones = vec![
                 zone(first.as_bytes(), over as u16, vec![piece.clone()]),
                 zone(second.as_bytes(), 1, vec![piece]),

@@ -64,11 +64,7 @@ pub struct Written {
 
 impl Written {
     fn put(&mut self, field: Field, item: &[u8]) {
-        self.places.push(Place {
-            field,
-            at: self.bytes.len(),
-            length: item.len(),
-        });
+        self.places.push(Place { field, at: self.bytes.len(), length: item.len() });
         self.bytes.extend(item);
     }
 
@@ -86,10 +82,7 @@ pub fn mend_length(bytes: &mut [u8]) {
 
 impl Draft {
     pub fn write(&self) -> Written {
-        let mut out = Written {
-            bytes: vec![0; 4],
-            places: Vec::new(),
-        };
+        let mut out = Written { bytes: vec![0; 4], places: Vec::new() };
         out.put(Field::Version, &[1]);
         out.put(Field::Arrangement, &[self.arrangement]);
         out.put(Field::Policy, &[self.policy]);

@@ -70,11 +70,7 @@ pub fn keys(rng: &mut Rng, number: usize) -> Vec<Vec<u8>> {
 
 fn one_zone(rng: &mut Rng, mut draft: Draft, marks: i64, pieces: Vec<Piece>) -> Draft {
     let key = keys(rng, 1).remove(0);
-    draft.zones.push(DraftZone {
-        key,
-        count: marks as u16,
-        pieces,
-    });
+    draft.zones.push(DraftZone { key, count: marks as u16, pieces });
     draft
 }
 
@@ -169,6 +165,21 @@ pub fn pieces(rng: &mut Rng) -> Draft {
     draft
 }
 
+/// Pieces whose areas are small multiples of one, so that remainders tie.
+pub fn shares(rng: &mut Rng) -> Draft {
+    let unit = rng.between(200, 2_000);
+    let marks = rng.between(1, 40);
+    let mut draft = head(rng, unit, 2);
+    draft.precision = (unit / 4) as u32;
+    let pieces = (0..rng.between(2, 9))
+        .map(|k| {
+            let spot = Spot { x: 3 * unit * k, y: 0, size: unit };
+            vec![shapes::rectangle(spot, unit, unit * rng.between(1, 12))]
+        })
+        .collect();
+    one_zone(rng, draft, marks, pieces)
+}
+
 /// Pillars in, over and beside the floor, and ones that are dropped.
 pub fn add_pillars(rng: &mut Rng, draft: &mut Draft, floor: Spot) {
     let number = if rng.one_in(12) { rng.between(5, 20) } else { rng.between(1, 4) };
@@ -179,19 +190,13 @@ pub fn add_pillars(rng: &mut Rng, draft: &mut Draft, floor: Spot) {
             1 => (floor.size, -4),
             2 => (2 * floor.size, floor.size / 3 + 1),
             3 => (2 * floor.size, 2 * floor.size),
-            _ => (
-                rng.scale(1, floor.size / 2 + 2),
-                rng.scale(1, floor.size / 2 + 2),
-            ),
+            _ => (rng.scale(1, floor.size / 2 + 2), rng.scale(1, floor.size / 2 + 2)),
         };
         let centred = rng.one_in(3);
         let (x, y) = if centred {
             (floor.x, floor.y)
         } else {
-            (
-                floor.x + rng.between(-reach, reach),
-                floor.y + rng.between(-reach, reach),
-            )
+            (floor.x + rng.between(-reach, reach), floor.y + rng.between(-reach, reach))
         };
         draft.obstacles.push([x as i32, y as i32, width as i32, height as i32]);
     }
@@ -214,11 +219,7 @@ pub fn pillars(rng: &mut Rng) -> Draft {
 /// Floors on which distances and bounds tie: even sizes, square pillars.
 pub fn symmetric(rng: &mut Rng) -> Draft {
     let size = 1024 * rng.between(1, 24);
-    let spot = Spot {
-        x: 512 * rng.between(-8, 8),
-        y: 512 * rng.between(-8, 8),
-        size,
-    };
+    let spot = Spot { x: 512 * rng.between(-8, 8), y: 512 * rng.between(-8, 8), size };
     let marks = few_marks(rng);
     let mut draft = head(rng, size, marks);
     draft.gap = rng.pick(&[0, 0, 256, 1024]);

@@ -33,6 +33,9 @@ pub const KINDS: &[(&str, u64, Maker)] = &[
     ("cut", 4, damage::cut),
     ("spliced", 4, damage::spliced),
     ("flipped", 8, damage::flipped),
+    ("shares", 3, |rng| kinds::shares(rng).bytes()),
+    ("folded", 3, |rng| corners::folded(rng).bytes()),
+    ("budget", 1, |rng| corners::budget(rng).bytes()),
 ];
 
 pub fn job(kind: usize, seed: u64) -> Vec<u8> {

@@ -42,7 +42,7 @@ pub fn radical_inverse(run: &Run) -> Tally {
     unsafe extern "C" {
         fn marks_radical_inverse(index: u64, base: u64, number: *mut u8) -> f64;
     }
-    on_two_threads("radical inverse", &run.kept, OTHERS, |tally, number| {
+    on_two_threads("radical-inverse", &run.kept, OTHERS, |tally, number| {
         let (index, base) = inverse_input(number);
         let wanted = if (2..=65_536).contains(&base) {
             (layers::radical_inverse(index as usize, base as usize), 0)
@@ -86,7 +86,8 @@ pub fn quotas(run: &Run) -> Tally {
         };
         let wanted = quotas_of_01(input.count, weights, before);
         tally.count((refusal, &given) == (wanted.0, &wanted.1), || {
-            let bits: Vec<String> = weights.iter().map(|w| format!("{:016x}", w.to_bits())).collect();
+            let bits: Vec<String> =
+                weights.iter().map(|w| format!("{:016x}", w.to_bits())).collect();
             let text = format!(
                 "count {} weights {bits:?}: {refusal} {given:?}, not {wanted:?}\n",
                 input.count

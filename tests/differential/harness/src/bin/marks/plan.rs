@@ -40,7 +40,7 @@ pub fn mixed(run: &Run) -> Tally {
 
 pub fn recorded(run: &Run) -> Tally {
     let text = fs::read_to_string(&run.recorded).expect("the recorded answers are there");
-    let mut tally = Tally::new("recorded answers, plan", &run.kept);
+    let mut tally = Tally::new("recorded", &run.kept);
     for record in parse(&text) {
         let fault = fault_of(&record.job, Lent::PROGRAM, &record.answer);
         keep(&mut tally, &record.name, &record.job, fault);

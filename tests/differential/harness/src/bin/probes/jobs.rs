@@ -30,8 +30,13 @@ pub fn ceiling(run: &Run) -> Tally {
         let (job, mut given) = (&floor.bytes, MARK);
         let tag = unsafe {
             probe_ceiling(
-                job.as_ptr(), job.len(), first.as_mut_ptr(), first.len(),
-                second.as_mut_ptr(), second.len(), &mut given,
+                job.as_ptr(),
+                job.len(),
+                first.as_mut_ptr(),
+                first.len(),
+                second.as_mut_ptr(),
+                second.len(),
+                &mut given,
             )
         };
         let wanted = match unless_too_many_wait(|| ceiling_of(&floor.job)) {
@@ -66,8 +71,13 @@ pub fn radius(run: &Run) -> Tally {
         let (job, mut trials) = (&floor.bytes, [u32::MAX; 2]);
         let given = unsafe {
             probe_radius(
-                job.as_ptr(), job.len(), first.as_mut_ptr(), first.len(),
-                second.as_mut_ptr(), second.len(), trials.as_mut_ptr(),
+                job.as_ptr(),
+                job.len(),
+                first.as_mut_ptr(),
+                first.len(),
+                second.as_mut_ptr(),
+                second.len(),
+                trials.as_mut_ptr(),
             )
         };
         let same = same_float(given, radius) && trials == wanted.trials;

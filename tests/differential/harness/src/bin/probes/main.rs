@@ -20,7 +20,10 @@ fn main() -> ExitCode {
         ("deepest-point", where_present!(has_probe_deepest_point, places::deepest_point)),
         ("uniform", where_present!(has_probe_pack_uniform, packers::uniform)),
         ("rectangular", where_present!(has_probe_pack_rectangular, packers::rectangular)),
-        ("low-discrepancy", where_present!(has_probe_pack_low_discrepancy, packers::low_discrepancy)),
+        (
+            "low-discrepancy",
+            where_present!(has_probe_pack_low_discrepancy, packers::low_discrepancy),
+        ),
         ("random", where_present!(has_probe_pack_random, packers::random)),
         ("relaxation", where_present!(has_probe_relax_scatter, packers::relaxation)),
         ("ceiling", where_present!(has_probe_ceiling, jobs::ceiling)),

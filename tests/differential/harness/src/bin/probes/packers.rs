@@ -56,14 +56,24 @@ macro_rules! packer {
                     spot_floats: usize,
                 ) -> u64;
             }
-            compare(run, stringify!($name), $symbol, GlyphArrangement::$arrangement)
+            compare(
+                run,
+                &stringify!($name).replace('_', "-"),
+                $symbol,
+                GlyphArrangement::$arrangement,
+            )
         }
     };
 }
 
 packer!(has_probe_pack_uniform, uniform, probe_pack_uniform, Uniform);
 packer!(has_probe_pack_rectangular, rectangular, probe_pack_rectangular, Rectangular);
-packer!(has_probe_pack_low_discrepancy, low_discrepancy, probe_pack_low_discrepancy, LowDiscrepancy);
+packer!(
+    has_probe_pack_low_discrepancy,
+    low_discrepancy,
+    probe_pack_low_discrepancy,
+    LowDiscrepancy
+);
 packer!(has_probe_pack_random, random, probe_pack_random, Random);
 
 fn compare(run: &Run, name: &str, packer: Packer, arrangement: GlyphArrangement) -> Tally {
@@ -99,19 +109,31 @@ fn compare(run: &Run, name: &str, packer: Packer, arrangement: GlyphArrangement)
             let mut given_state = packing.state;
             let placed = unsafe {
                 packer(
-                    sizes.as_ptr(), sizes.len(), coords.as_ptr(), coords.len(),
-                    flat.as_ptr(), flat.len(), settings.as_ptr(), packing.quota as u64,
-                    packing.attempts, packing.spread.into(), packing.strict.into(),
-                    &mut given_state, first.as_mut_ptr(), first.len(),
-                    second.as_mut_ptr(), second.len(), given.as_mut_ptr(), given.len(),
+                    sizes.as_ptr(),
+                    sizes.len(),
+                    coords.as_ptr(),
+                    coords.len(),
+                    flat.as_ptr(),
+                    flat.len(),
+                    settings.as_ptr(),
+                    packing.quota as u64,
+                    packing.attempts,
+                    packing.spread.into(),
+                    packing.strict.into(),
+                    &mut given_state,
+                    first.as_mut_ptr(),
+                    first.len(),
+                    second.as_mut_ptr(),
+                    second.len(),
+                    given.as_mut_ptr(),
+                    given.len(),
                 )
             };
             let same = placed as usize == spots.len()
                 && same_floats(&given[..2 * spots.len()], &flat_points(&spots))
                 && given_state == state;
-            tally.count(same, || {
-                (format!("{}-piece-{index}.job", floor.name), floor.bytes.clone())
-            });
+            tally
+                .count(same, || (format!("{}-piece-{index}.job", floor.name), floor.bytes.clone()));
         }
     })
 }
@@ -163,8 +185,16 @@ pub fn relaxation(run: &Run) -> Tally {
             let (sizes, coords) = (&input.ring_sizes, &input.coords);
             unsafe {
                 probe_relax_scatter(
-                    sizes.as_ptr(), sizes.len(), coords.as_ptr(), coords.len(),
-                    flat.as_ptr(), flat.len(), spacing, inset, given.as_mut_ptr(), given.len(),
+                    sizes.as_ptr(),
+                    sizes.len(),
+                    coords.as_ptr(),
+                    coords.len(),
+                    flat.as_ptr(),
+                    flat.len(),
+                    spacing,
+                    inset,
+                    given.as_mut_ptr(),
+                    given.len(),
                 );
             }
             layers::relax_scatter(&mut spots, &input.piece, &near, spacing, inset);

@@ -42,11 +42,18 @@ pub fn signed_clearance(run: &Run) -> Tally {
             y: f64,
         ) -> f64;
     }
-    over_pieces("signed clearance", run, |_, input, rng, judge| {
+    over_pieces("signed-clearance", run, |_, input, rng, judge| {
         for [x, y] in input.places(rng) {
             let (sizes, coords) = (&input.ring_sizes, &input.coords);
             let given = unsafe {
-                probe_signed_clearance(sizes.as_ptr(), sizes.len(), coords.as_ptr(), coords.len(), x, y)
+                probe_signed_clearance(
+                    sizes.as_ptr(),
+                    sizes.len(),
+                    coords.as_ptr(),
+                    coords.len(),
+                    x,
+                    y,
+                )
             };
             judge(same_float(given, layers::signed_clearance(x, y, &input.piece)));
         }
@@ -58,7 +65,7 @@ pub fn inside(run: &Run) -> Tally {
     unsafe extern "C" {
         fn probe_point_in_polygon(ring: *const f64, floats: usize, x: f64, y: f64) -> u8;
     }
-    over_pieces("inside test", run, |_, input, rng, judge| {
+    over_pieces("inside", run, |_, input, rng, judge| {
         let ring = input.outer();
         for [x, y] in input.places(rng) {
             let given = unsafe { probe_point_in_polygon(ring.as_ptr(), ring.len(), x, y) };
@@ -71,11 +78,17 @@ pub fn inside(run: &Run) -> Tally {
 #[cfg(has_probe_area)]
 pub fn area(run: &Run) -> Tally {
     unsafe extern "C" {
-        fn probe_area(ring_sizes: *const u64, rings: usize, coords: *const f64, floats: usize) -> f64;
+        fn probe_area(
+            ring_sizes: *const u64,
+            rings: usize,
+            coords: *const f64,
+            floats: usize,
+        ) -> f64;
     }
     over_pieces("area", run, |_, input, _, judge| {
         let (sizes, coords) = (&input.ring_sizes, &input.coords);
-        let given = unsafe { probe_area(sizes.as_ptr(), sizes.len(), coords.as_ptr(), coords.len()) };
+        let given =
+            unsafe { probe_area(sizes.as_ptr(), sizes.len(), coords.as_ptr(), coords.len()) };
         judge(same_float(given, input.piece.area()));
     })
 }
@@ -114,7 +127,7 @@ pub fn near(run: &Run) -> Tally {
             near_length: usize,
         ) -> u64;
     }
-    over_pieces("near rule", run, |floor, input, rng, judge| {
+    over_pieces("near", run, |floor, input, rng, judge| {
         let obstacles = obstacles(&floor.job);
         let flat = flat_obstacles(&obstacles);
         let inset = input.radius(floor, rng) * (1.0 + gaps(&floor.job).1);
@@ -122,11 +135,19 @@ pub fn near(run: &Run) -> Tally {
         let mut flags = vec![9u8; obstacles.len()];
         let count = unsafe {
             probe_obstacles_near(
-                sizes.as_ptr(), sizes.len(), coords.as_ptr(), coords.len(),
-                flat.as_ptr(), flat.len(), inset, flags.as_mut_ptr(), flags.len(),
+                sizes.as_ptr(),
+                sizes.len(),
+                coords.as_ptr(),
+                coords.len(),
+                flat.as_ptr(),
+                flat.len(),
+                inset,
+                flags.as_mut_ptr(),
+                flags.len(),
             )
         };
-        let one_by_one = |k: usize| layers::obstacles_near(&input.piece, &obstacles[k..=k], inset).len();
+        let one_by_one =
+            |k: usize| layers::obstacles_near(&input.piece, &obstacles[k..=k], inset).len();
         let wanted: Vec<u8> = (0..obstacles.len()).map(|k| one_by_one(k) as u8).collect();
         let number = layers::obstacles_near(&input.piece, &obstacles, inset).len();
         judge(flags == wanted && count == number as u64);
@@ -150,16 +171,24 @@ pub fn deepest_point(run: &Run) -> Tally {
             waiting: *mut u32,
         ) -> u8;
     }
-    over_pieces("deepest point", run, |floor, input, _, judge| {
+    over_pieces("deepest-point", run, |floor, input, _, judge| {
         let precision = f64::from(floor.job.head.precision) / 1024.0;
         let (sizes, coords) = (&input.ring_sizes, &input.coords);
         let (mut first, mut second) = (vec![0.0; 8_000], vec![0.0; 8_000]);
         let (mut found, mut waiting) = ([MARK; 3], u32::MAX);
         let tag = unsafe {
             probe_deepest_point(
-                sizes.as_ptr(), sizes.len(), coords.as_ptr(), coords.len(), precision,
-                first.as_mut_ptr(), first.len(), second.as_mut_ptr(), second.len(),
-                found.as_mut_ptr(), &mut waiting,
+                sizes.as_ptr(),
+                sizes.len(),
+                coords.as_ptr(),
+                coords.len(),
+                precision,
+                first.as_mut_ptr(),
+                first.len(),
+                second.as_mut_ptr(),
+                second.len(),
+                found.as_mut_ptr(),
+                &mut waiting,
             )
         };
         let searched = unless_too_many_wait(|| layers::deepest_point(&input.piece, precision).0);

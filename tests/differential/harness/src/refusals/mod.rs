@@ -7,6 +7,8 @@ use crate::generator::draft::{Draft, DraftZone, Field, mend_length};
 use crate::tally::Tally;
 use crate::worked::example;
 
+mod later;
+
 struct Case {
     name: String,
     bytes: Vec<u8>,
@@ -19,12 +21,7 @@ struct Cases(Vec<Case>);
 
 impl Cases {
     fn bytes(&mut self, name: &str, bytes: Vec<u8>, expected: u8) {
-        self.0.push(Case {
-            name: name.into(),
-            bytes,
-            lent: Lent::PROGRAM,
-            expected,
-        });
+        self.0.push(Case { name: name.into(), bytes, lent: Lent::PROGRAM, expected });
     }
 
     fn draft(&mut self, name: &str, draft: &Draft, expected: u8) {
@@ -46,16 +43,30 @@ impl Cases {
     }
 }
 
-pub fn check(tally: &mut Tally) {
+/// The cases that the job program can meet, by name.
+pub fn for_program() -> Vec<(String, Vec<u8>)> {
+    let lent = |case: &Case| {
+        let Lent { first, second, sheet } = case.lent;
+        [first, second, sheet] == [Lent::PROGRAM.first, Lent::PROGRAM.second, Lent::PROGRAM.sheet]
+    };
+    let cases = all().0.into_iter().filter(lent);
+    cases.map(|case| (case.name.replace(' ', "-"), case.bytes)).collect()
+}
+
+fn all() -> Cases {
     let mut cases = Cases::default();
     lengths_and_slices(&mut cases);
     head(&mut cases);
     obstacles_and_zones(&mut cases);
     lists(&mut cases);
     keys_and_marks(&mut cases);
-    after_reading(&mut cases);
-    order(&mut cases);
-    for case in cases.0 {
+    later::after_reading(&mut cases);
+    later::order(&mut cases);
+    cases
+}
+
+pub fn check(tally: &mut Tally) {
+    for case in all().0 {
         let number = match answer(&case.bytes, case.lent).outcome {
             Outcome::Refused(number) => number,
             Outcome::Sheet(_) => 0,
@@ -68,10 +79,7 @@ pub fn check(tally: &mut Tally) {
 }
 
 fn with_pillar() -> Draft {
-    Draft {
-        obstacles: vec![[0, 0, 10, 10]],
-        ..example()
-    }
+    Draft { obstacles: vec![[0, 0, 10, 10]], ..example() }
 }
 
 fn lengths_and_slices(cases: &mut Cases) {
@@ -108,14 +116,8 @@ fn lengths_and_slices(cases: &mut Cases) {
 }
 
 fn head(cases: &mut Cases) {
-    let stated = Draft {
-        boundary_gap: Some(0),
-        ..with_pillar()
-    };
-    let automatic = Draft {
-        radius: None,
-        ..with_pillar()
-    };
+    let stated = Draft { boundary_gap: Some(0), ..with_pillar() };
+    let automatic = Draft { radius: None, ..with_pillar() };
     for (field, value, expected) in [
         (Field::Version, 0, 3),
         (Field::Version, 2, 3),
@@ -155,7 +157,8 @@ fn head(cases: &mut Cases) {
 
 fn obstacles_and_zones(cases: &mut Cases) {
     for place in 0..4 {
-        for (value, expected) in [(-1_048_577, 8), (-1_048_576, 0), (1_048_576, 0), (1_048_577, 8)] {
+        for (value, expected) in [(-1_048_577, 8), (-1_048_576, 0), (1_048_576, 0), (1_048_577, 8)]
+        {
             let mut draft = with_pillar();
             draft.obstacles[0][place] = value;
             cases.draft(&format!("obstacle {place} {value}"), &draft, expected);
@@ -183,18 +186,11 @@ fn obstacles_and_zones(cases: &mut Cases) {
 }
 
 fn empty_zone(key: &[u8], count: u16) -> DraftZone {
-    DraftZone {
-        key: key.to_vec(),
-        count,
-        pieces: Vec::new(),
-    }
+    DraftZone { key: key.to_vec(), count, pieces: Vec::new() }
 }
 
 fn with_zones(zones: Vec<DraftZone>) -> Draft {
-    Draft {
-        zones,
-        ..example()
-    }
+    Draft { zones, ..example() }
 }
 
 fn lists(cases: &mut Cases) {
@@ -226,16 +222,34 @@ fn lists(cases: &mut Cases) {
 
 fn keys_and_marks(cases: &mut Cases) {
     for (byte, expected) in [
-        (b'/', 10), (b'0', 0), (b'9', 0), (b':', 10),
-        (b'@', 10), (b'A', 0), (b'Z', 0), (b'[', 10),
-        (b'`', 10), (b'a', 0), (b'z', 0), (b'{', 10),
-        (0, 10), (b'&', 10), (b' ', 10), (255, 10),
+        (b'/', 10),
+        (b'0', 0),
+        (b'9', 0),
+        (b':', 10),
+        (b'@', 10),
+        (b'A', 0),
+        (b'Z', 0),
+        (b'[', 10),
+        (b'`', 10),
+        (b'a', 0),
+        (b'z', 0),
+        (b'{', 10),
+        (0, 10),
+        (b'&', 10),
+        (b' ', 10),
+        (255, 10),
     ] {
         cases.patch(&example(), Field::KeyByte, byte.into(), expected);
     }
     for (first, second, expected) in [
-        ("a", "a", 11), ("b", "a", 11), ("ab", "a", 11), ("a", "ab", 0),
-        ("a", "b", 0), ("Z", "a", 0), ("a", "Z", 11), ("9", "A", 0),
+        ("a", "a", 11),
+        ("b", "a", 11),
+        ("ab", "a", 11),
+        ("a", "ab", 0),
+        ("a", "b", 0),
+        ("Z", "a", 0),
+        ("a", "Z", 11),
+        ("9", "A", 0),
     ] {
         let zones = vec![empty_zone(first.as_bytes(), 0), empty_zone(second.as_bytes(), 1)];
         cases.draft(&format!("keys {first} {second}"), &with_zones(zones), expected);
@@ -244,78 +258,4 @@ fn keys_and_marks(cases: &mut Cases) {
         let zones = vec![empty_zone(b"a", 1_000), empty_zone(b"b", last)];
         cases.draft(&format!("marks 1000 and {last}"), &with_zones(zones), expected);
     }
-}
-
-/// A rectangle of `cells` squares side by side, 64 high.
-fn gallery(cells: i32) -> Draft {
-    let (long, high) = (64 * cells, 64);
-    let mut draft = example();
-    draft.radius = None;
-    draft.zones[0].pieces = vec![vec![vec![[0, 0], [long, 0], [long, high], [0, high]]]];
-    draft.precision = 1_048_576;
-    draft
-}
-
-fn square_of(side: i32) -> Draft {
-    let mut draft = example();
-    (draft.radius, draft.precision) = (None, 1);
-    draft.zones[0].pieces = vec![vec![vec![[0, 0], [side, 0], [side, side], [0, side]]]];
-    draft
-}
-
-fn after_reading(cases: &mut Cases) {
-    let job = with_pillar().bytes();
-    for (sheet, expected) in [(36, 14), (37, 0), (0, 14)] {
-        cases.lent("buffer", job.clone(), Lent { sheet, ..Lent::PROGRAM }, expected);
-    }
-    let left_out = with_zones(vec![empty_zone(b"a", 9)]).bytes();
-    for (sheet, expected) in [(14, 14), (15, 0)] {
-        cases.lent("buffer", left_out.clone(), Lent { sheet, ..Lent::PROGRAM }, expected);
-    }
-    cases.draft("1600 cells", &gallery(1_600), 0);
-    cases.draft("1601 cells", &gallery(1_601), 15);
-    let split = Draft { precision: 1, ..gallery(1_600) };
-    cases.draft("1600 cells, one split", &split, 15);
-    let stated = |arrangement, count| {
-        let mut draft = gallery(1_601);
-        (draft.radius, draft.arrangement) = (Some(1), arrangement);
-        draft.zones[0].count = count;
-        draft
-    };
-    for (arrangement, count, expected) in [(0, 1, 15), (1, 1, 15), (2, 1, 15), (2, 2, 0), (3, 1, 0), (0, 0, 0)] {
-        cases.draft("stated, 1601 cells", &stated(arrangement, count), expected);
-    }
-    cases.draft("radius 0, 1601 cells", &Draft { radius: Some(0), ..stated(0, 1) }, 0);
-    cases.draft("ceiling 2^-10", &square_of(2), 0);
-    cases.draft("ceiling 2^-11", &square_of(1), 16);
-    cases.draft("no ceiling", &square_of(0), 0);
-    cases.draft("stated below 2^-10", &Draft { radius: Some(1), ..square_of(1) }, 0);
-}
-
-fn order(cases: &mut Cases) {
-    let mut bad = with_pillar();
-    (bad.arrangement, bad.obstacles[0][0]) = (4, 1_048_577);
-    cases.draft("4 before 8", &bad, 4);
-    bad.arrangement = 0;
-    bad.zones[0].key = b"&".to_vec();
-    cases.draft("8 before 10", &bad, 8);
-    let mut short = with_pillar().bytes();
-    short[4] = 9;
-    let lent = Lent { first: 0, second: 0, sheet: 0 };
-    cases.lent("2 before 3", short.clone(), lent, 2);
-    cases.lent("3 before 14", short, Lent { sheet: 0, ..Lent::PROGRAM }, 3);
-    cases.lent("1 before 2", vec![1; 4], lent, 1);
-    let mut long = example().bytes();
-    long.push(0);
-    mend_length(&mut long);
-    cases.lent("7 before 14", long, Lent { sheet: 0, ..Lent::PROGRAM }, 7);
-    let gallery_bytes = gallery(1_601).bytes();
-    cases.lent("14 before 15", gallery_bytes, Lent { sheet: 36, ..Lent::PROGRAM }, 14);
-    let mut both = square_of(1);
-    both.zones.push(DraftZone { key: b"B".to_vec(), ..gallery(1_601).zones[0].clone() });
-    cases.draft("15 before 16", &both, 15);
-    let mut marks = with_zones(vec![empty_zone(b"b", 1_500), empty_zone(b"a", 1_500)]);
-    cases.draft("11 before 12", &marks, 11);
-    marks.zones[1].key = b"c".to_vec();
-    cases.draft("12 after 11", &marks, 12);
 }
