@@ -4,6 +4,7 @@ pub mod comparison;
 pub mod generator;
 pub mod layer_inputs;
 pub mod leaf_inputs;
+pub mod lent;
 pub mod noticed;
 pub mod recorded;
 pub mod refusals;

@@ -1,35 +1,11 @@
 //! Whether a planted fault is noticed: the clean oracle writes a hash of each
 //! answer, the planted one looks for the first job that it answers otherwise.
 
-use oracle::judge::{Answer, Lent, Outcome, answer};
+use oracle::judge::{Answer, Outcome, answer};
 use oracle::plotting::glyphs::discs::layers::fnv1a;
 
 use crate::generator;
-use crate::rng::Rng;
-
-/// The lent lengths of that job: mostly the program's, sometimes short.
-pub fn lent(number: u64, job: &[u8]) -> Lent {
-    let mut rng = Rng::new(99, number);
-    let mut lent = Lent::PROGRAM;
-    match rng.index(40) {
-        0 => lent.first = rng.pick(&[0, 7_999, 8_000, 8_001, 8_100]),
-        1 => lent.second = rng.pick(&[0, 7_999, 8_000, 8_001, 8_100]),
-        2..=5 => lent.sheet = exact_buffer(job) - usize::from(rng.one_in(2)),
-        6 => lent.sheet = rng.index(64),
-        _ => {}
-    }
-    lent
-}
-
-/// The shortest sheet buffer that row 14 lets pass, where the job can be read.
-fn exact_buffer(job: &[u8]) -> usize {
-    let read = oracle::job::check_length(job).and_then(|()| oracle::job::read(job));
-    read.map_or(15, |job| {
-        let zones = job.zones.iter().filter(|zone| zone.left_in());
-        let spots = zones.map(|zone| 5 + zone.key.len() + 16 * usize::from(zone.count));
-        15 + spots.sum::<usize>()
-    })
-}
+use crate::lent::lent;
 
 fn hash(answer: &Answer) -> u64 {
     let mut bytes = match &answer.outcome {

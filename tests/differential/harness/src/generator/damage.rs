@@ -149,6 +149,15 @@ fn of_length(rng: &mut Rng, mut draft: Draft, length: usize) -> Vec<u8> {
     draft.bytes()
 }
 
+/// A good job under a length field that does not name the rest.
+pub fn length(rng: &mut Rng) -> Vec<u8> {
+    let mut bytes = good(rng).bytes();
+    let rest = bytes.len() as u32 - 4;
+    let wrong = rng.pick(&[0, 1, rest - 1, rest + 1, rest + 4, rest << 8, u32::MAX]);
+    bytes[..4].copy_from_slice(&wrong.to_be_bytes());
+    bytes
+}
+
 pub fn cut(rng: &mut Rng) -> Vec<u8> {
     let mut bytes = good(rng).bytes();
     let head = rng.one_in(2) && bytes.len() > 60;

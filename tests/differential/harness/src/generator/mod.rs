@@ -36,6 +36,7 @@ pub const KINDS: &[(&str, u64, Maker)] = &[
     ("shares", 3, |rng| kinds::shares(rng).bytes()),
     ("folded", 3, |rng| corners::folded(rng).bytes()),
     ("budget", 1, |rng| corners::budget(rng).bytes()),
+    ("length", 1, damage::length),
 ];
 
 pub fn job(kind: usize, seed: u64) -> Vec<u8> {

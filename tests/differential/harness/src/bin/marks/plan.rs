@@ -5,7 +5,7 @@ use std::fs;
 
 use harness::comparison::Run;
 use harness::generator;
-use harness::noticed::lent;
+use harness::lent::lent;
 use harness::recorded::parse;
 use harness::tally::{Tally, on_two_threads};
 use oracle::judge::{Answer, Lent, Outcome, answer};
