@@ -82,7 +82,6 @@ fn replay(file: &str) -> bool {
 }
 
 fn look_for_difference(file: &str) -> bool {
-    noticed::silence_panics();
     match noticed::first_difference(&read(file)) {
         Some((number, name)) => print(&format!("job {number} ({name})\n")),
         None => !print("not noticed\n"),
