@@ -103,7 +103,7 @@ pub fn search(rng: &mut Rng) -> Draft {
     let marks = rng.between(1, 3);
     let mut draft = head(rng, 4_096, marks);
     let piece = if rng.one_in(2) {
-        let thin = rng.scale(2, 1_300);
+        let thin = 2 * rng.scale(1, 650);
         let cells = rng.between(1_594, 1_604);
         let long = thin * cells - if thin > 4 && rng.one_in(3) { thin / 2 } else { 0 };
         let spot = Spot { x: 0, y: 0, size: long };
