@@ -2,6 +2,7 @@
 ghost use mathlib.Core.Path.{_≡_};
 ghost use Prim.Native.Nat.{_*_, _/_, _<_, _≤_};
 ghost use lib.ListN.{length};
+ghost use Rattle.float.specs.Ops.{_≤ᶠ_};
 ghost use Rattle.regions.specs.Ring.{sum, pieceOf};
 ghost use Rattle.regions.specs.Area.{pieceArea};
 ghost use Rattle.regions.specs.Clearance.{signedClearance};
@@ -14,6 +15,20 @@ pub extern "C" fn probe_signed_clearance(sizes: &[usize], coords: &[f64], x: f64
     ensures { λ r. ⌜ r ≡ signedClearance x y (pieceOf (now (sizes .entry)) (now (coords .entry))) ⌝ }
 {
     regions::clearance::signed_clearance(x, y, sizes, coords)
+}
+
+#[no_mangle]
+pub extern "C" fn probe_clearance_at_least(
+    sizes: &[usize],
+    coords: &[f64],
+    x: f64,
+    y: f64,
+    c: f64,
+) -> bool
+    requires { ⌜ (0 < length (now sizes)) × (sum (now sizes) * 2 ≤ length (now coords)) ⌝ }
+    ensures { λ r. ⌜ r ≡ (c ≤ᶠ signedClearance x y (pieceOf (now (sizes .entry)) (now (coords .entry)))) ⌝ }
+{
+    regions::margin::clearance_at_least(x, y, sizes, coords, c)
 }
 
 #[no_mangle]
