@@ -196,7 +196,7 @@ until-at-least px py c rings =
     stopped-same c _ _ (rings-good px py ∞ rings ∞-good) (rings-stopped px py (lowSquare c) ∞ ∞ rings ∞-good (inl refl))
     ∙ ap (λ (x : Float). c ≤ᶠ x) (sym (least-root px py rings))
 
-flat : T (le (neg origin) origin)
+pub flat : T (le (neg origin) origin)
 unfolding le neg
 flat = tt
 

@@ -6,3 +6,4 @@ pub mod Squares
 pub mod Least
 pub mod Margin
 pub mod Early
+pub mod Facts
