@@ -5,7 +5,8 @@ use Prim.Native.Nat.{ℕ, zero, suc, _+_, _-_, compare, Ordering}
 use lib.Dec.{eqb}
 use lib.ListN.{length, take, getD, set, replicate}
 use lib.Ieee.{Float, nan, isNan}
-use Rattle.laws.specs.Sort.{_thenBy_, sortBy}
+use Rattle.laws.specs.Orders.{_thenBy_}
+use Rattle.laws.specs.Sort.{sortBy}
 use Rattle.laws.specs.Lists.{upTo}
 use Rattle.float.specs.Ops.{_+ᶠ_, _-ᶠ_, _*ᶠ_, _/ᶠ_, _≤ᶠ_, 0ᶠ, -0ᶠ}
 use Rattle.float.specs.Order.{max}
@@ -15,6 +16,11 @@ use Rattle.float.specs.Total.{totalCmp}
 -- weights.iter().sum(), which starts at -0.0
 unfoldable pub total : List Float → Float
 total weights = foldl _+ᶠ_ -0ᶠ weights
+
+-- total.is_nan() || total <= 0.0
+unfoldable pub noWeight : Float → Bool
+unfolding isNan
+noWeight total = isNan total || total ≤ᶠ 0ᶠ
 
 unfoldable pub share : ℕ → Float → Float → Float
 share n total w = as-f64 n *ᶠ max (w /ᶠ total) 0ᶠ
@@ -46,5 +52,5 @@ apportion n weights =
     let sum = total weights in
     let floors = base n sum weights in
     cond (eqb (length weights) 0) []
-    (cond (isNan sum || sum ≤ᶠ 0ᶠ) (set (replicate (length weights) 0) 0 n)
+    (cond (noWeight sum) (set (replicate (length weights) 0) 0 n)
     (handOut floors (take (n - assigned floors) (order (rems n sum weights)))))

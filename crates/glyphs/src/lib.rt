@@ -1,5 +1,10 @@
-// glyphs.rs, point.rs and rectangle.rs: hash, stream, radical inverse and quotas; points, obstacles and bounds.
+// glyphs.rs, point.rs and rectangle.rs: options, points, obstacles and bounds; hash, stream, radical inverse and
+// quotas.
 pub mod bounds;
+pub mod halton;
+pub mod hash;
 pub mod mode;
+pub mod options;
 pub mod points;
 pub mod rect;
+pub mod stream;

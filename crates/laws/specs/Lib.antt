@@ -1,4 +1,8 @@
+pub mod Casts
 pub mod Choice
+pub mod Folds
 pub mod Lists
+pub mod Orders
 pub mod Sort
+pub mod Sorted
 pub mod Truth

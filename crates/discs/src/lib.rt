@@ -1,0 +1,2 @@
+// discs.rs: the disc packer.
+pub mod options;

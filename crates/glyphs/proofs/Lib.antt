@@ -1,0 +1,2 @@
+mod Halves
+mod Turns
