@@ -1,2 +1,3 @@
 // discs.rs: the disc packer.
+pub mod context;
 pub mod options;
