@@ -1,4 +1,12 @@
 pub mod Nan
+pub mod Compare
+pub mod Zero
+pub mod Same
 pub mod Pattern
+pub mod Whole
 pub mod Fits
+pub mod Square
 pub mod Floor
+pub mod Nearest
+pub mod Monotone
+pub mod Minimum

@@ -6,5 +6,6 @@ pub mod hash;
 pub mod mode;
 pub mod options;
 pub mod points;
+pub mod quotas;
 pub mod rect;
 pub mod stream;

@@ -1,6 +1,6 @@
 -- Bit patterns: the sign stands in front of the pattern of the value without its sign, and a number's pattern is at most the infinity's.
 -- Rests on the kit's account of patterns.
-use mathlib.Core.Path.{_≡_, refl, sym, ap, _∙_, subst}
+use mathlib.Core.Path.{_≡_, refl, subst}
 use mathlib.Core.Bool.{Bool, true, false, not, _&&_, cond}
 use Prim.Native.Nat.{ℕ, zero, suc, _+_, _-_, _*_, _/_, _%_, _^_, _≤_, _<_}
 use native.Mathlib.Nat.{le-refl, le-of-eq, le-of-lt, lt-of-lt-of-le, lt-of-le-of-lt, mul-pos, mul-right-comm, zero-mul, mul-lt-mul-of-pos-right, div-lt-iff-lt-mul}
