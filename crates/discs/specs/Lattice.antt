@@ -15,7 +15,9 @@ use Rattle.float.specs.Total.{totalCmp}
 use Rattle.float.specs.Whole.{floor, ceil, as-i64}
 use Rattle.glyphs.specs.declared.rect.Point.{Point}
 use Rattle.glyphs.specs.declared.rect.Rectangle.{Rectangle}
-use Rattle.glyphs.specs.Bounds.{Bounds, Box, Nothing, ringBounds}
+use Rattle.glyphs.specs.declared.bounds.Bounds.{Bounds}
+use Rattle.glyphs.specs.declared.bounds.Bounds.the-variants.{Box, Nothing}
+use Rattle.glyphs.specs.Bounds.{ringBounds}
 use Rattle.glyphs.specs.Rect.{clearOfObstacles, isFinite}
 use Rattle.regions.specs.Ring.{Piece, outer}
 use Rattle.regions.specs.Clearance.{signedClearance}
@@ -104,8 +106,8 @@ reached (at c) n = leb c n
 unfoldable pub judge : Piece → Float → List Rectangle → Cap → HexCells → List Point → HexCells
 judge piece min-clearance obstacles cap cells [] = cells
 judge piece min-clearance obstacles cap cells (p ∷ ps) =
-    let freed = record { free = cells .free ++ p ∷ []; blocked = cells .blocked } in
-    let walled = record { free = cells .free; blocked = cells .blocked ++ p ∷ [] } in
+    let freed : HexCells = record { free = cells .free ++ p ∷ []; blocked = cells .blocked } in
+    let walled : HexCells = record { free = cells .free; blocked = cells .blocked ++ p ∷ [] } in
     cond (signedClearance (p .x) (p .y) piece ≥ᶠ min-clearance)
     (cond (clearOfObstacles (p .x) (p .y) obstacles min-clearance)
     (cond (reached cap (length (freed .free))) freed (judge piece min-clearance obstacles cap freed ps))

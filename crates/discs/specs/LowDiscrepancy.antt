@@ -13,14 +13,15 @@ use Rattle.float.specs.Whole.{floor, as-i64}
 use Rattle.glyphs.specs.declared.mode.PackMode.{PackMode}
 use Rattle.glyphs.specs.declared.rect.Point.{Point}
 use Rattle.glyphs.specs.declared.rect.Rectangle.{Rectangle}
-use Rattle.glyphs.specs.Bounds.{Bounds, Box, Nothing, ringBounds}
+use Rattle.glyphs.specs.declared.bounds.Bounds.{Bounds}
+use Rattle.glyphs.specs.declared.bounds.Bounds.the-variants.{Box, Nothing}
+use Rattle.glyphs.specs.Bounds.{ringBounds}
 use Rattle.glyphs.specs.Halton.{radicalInverse}
 use Rattle.glyphs.specs.Rect.{clearOfObstacles}
 use Rattle.regions.specs.Ring.{Piece, outer}
 use Rattle.regions.specs.Clearance.{signedClearance}
-use Rattle.regions.specs.Deepest.{Poi, none, found, poiWithHoles}
+use Rattle.regions.specs.Deepest.{Poi, nowhere, found, poiWithHoles}
 use Rattle.discs.specs.Context.{inset, spacing}
-use Rattle.discs.specs.Escape as Escape
 use Rattle.discs.specs.Escape.{point, squaredDistance, escapeObstacles}
 use Rattle.discs.specs.Uniform.{localTo}
 use Rattle.discs.specs.declared.context.PackCtx.{PackCtx}
@@ -94,7 +95,7 @@ module _ (piece : Piece) (n : ℕ) (ctx : PackCtx) (near : List Rectangle) (anch
 
 -- the deepest point, moved off the obstacles, for a lone mark
 unfoldable pub loneAnchor : ℕ → Poi → Piece → List Rectangle → Float → Anchor
-loneAnchor n Poi·none piece near inset = none
+loneAnchor n nowhere piece near inset = none
 loneAnchor n (found x y clearance) piece near inset = cond (eqb n 1) (some (escapeObstacles (point x y) piece near inset)) none
 
 unfoldable pub packWithin : Bounds → Piece → ℕ → Float → PackCtx → List Rectangle → List Point

@@ -50,7 +50,7 @@ orElse (some r) other = r
 
 -- PACK, strict where the policy is
 abbrev pub pack : GlyphOptions → PackMode
-pack options = record { spread = true; strict_obstacles = isStrict (options .«obstacle_policy») }
+pack options = record { spread = true; «strict_obstacles» = isStrict (options .«obstacle_policy») }
   where
     isStrict : ObstaclePolicy → Bool
     isStrict BestEffort = false

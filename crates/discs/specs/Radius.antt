@@ -1,5 +1,5 @@
 -- discs.rs, `analytic_r_hi` and `auto_radius`, with the number of trials. Definitions only.
-use mathlib.Core.Bool.{Bool, cond, _&&_}
+use mathlib.Core.Bool.{Bool, true, false, cond, _&&_}
 use mathlib.Core.List.{List, [], _∷_, foldl}
 use Prim.Native.Nat.{ℕ, zero, suc, _+_}
 use lib.Dec.{eqb}
@@ -12,7 +12,7 @@ use Rattle.glyphs.specs.Rect.{isFinite}
 use Rattle.glyphs.specs.declared.mode.PackMode.{PackMode}
 use Rattle.glyphs.specs.declared.rect.Rectangle.{Rectangle}
 use Rattle.regions.specs.Ring.{Piece}
-use Rattle.regions.specs.Deepest.{Poi, none, found, poiWithHoles}
+use Rattle.regions.specs.Deepest.{Poi, nowhere, found, poiWithHoles}
 use Rattle.relax.specs.declared.Spreading.{Spreading}
 use Rattle.discs.specs.Region.{Zone, areas, packRegion, placedIn}
 use Rattle.discs.specs.Uniform.{1e-3ᶠ}
@@ -45,7 +45,7 @@ boundaryGapOf options = max (own (options .«boundary_gap»)) 0ᶠ
     own (Own gap) = gap
 
 abbrev pub contextAt : GlyphOptions → PackMode → Float → PackCtx
-contextAt options mode r = record { r = r; gap = gapOf options; boundary_gap = boundaryGapOf options; mode = mode }
+contextAt options mode r = record { r = r; gap = gapOf options; «boundary_gap» = boundaryGapOf options; mode = mode }
 
 -- ---- the ceiling
 
@@ -57,7 +57,7 @@ lowered gap precision r-hi zone = bound (poiWithHoles (zone .pieces) precision)
     area = foldl _+ᶠ_ -0ᶠ (areas (zone .pieces))
 
     bound : Poi → Float
-    bound Poi·none = r-hi
+    bound nowhere = r-hi
     bound (found x y clearance) = min (min r-hi (clearance /ᶠ (1ᶠ +ᶠ gap))) (sqrt (area /ᶠ (as-f64 (zone .count) *ᶠ π)))
 
 unfoldable pub analyticRHi : List Zone → Float → Float → Chosen
@@ -69,7 +69,7 @@ analyticRHi work gap precision =
 
 -- PackMode's PROBE
 abbrev pub probe : PackMode
-probe = record { spread = false; strict_obstacles = true }
+probe = record { spread = false; «strict_obstacles» = true }
 
 -- the radius found, and how many trials were made
 pub record Search : Type 0 where

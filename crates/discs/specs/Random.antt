@@ -12,7 +12,9 @@ use Rattle.glyphs.specs.declared.rect.Point.{Point}
 use Rattle.glyphs.specs.declared.rect.Rectangle.{Rectangle}
 use Rattle.glyphs.specs.declared.stream.Stream.{Stream}
 use Rattle.glyphs.specs.declared.stream.Sample.{Sample}
-use Rattle.glyphs.specs.Bounds.{Bounds, Box, Nothing, ringBounds}
+use Rattle.glyphs.specs.declared.bounds.Bounds.{Bounds}
+use Rattle.glyphs.specs.declared.bounds.Bounds.the-variants.{Box, Nothing}
+use Rattle.glyphs.specs.Bounds.{ringBounds}
 use Rattle.glyphs.specs.Rect.{clearOfObstacles}
 use Rattle.glyphs.specs.Stream.{randomRange}
 use Rattle.regions.specs.Ring.{Piece, outer}
@@ -34,6 +36,11 @@ pub data Dart : Type 0 where
   hit : Point → Stream → Dart
   miss : Stream → Dart
 
+-- a hit goes on with the next glyph; a miss ends the pass
+abbrev pub afterDart : (Thrown → Thrown) → Thrown → Dart → Thrown
+afterDart next t (hit p rng) = next (record { placed = t .placed ++ p ∷ []; rng = rng })
+afterDart next t (miss rng) = record { placed = t .placed; rng = rng }
+
 module _ (piece : Piece) (n : ℕ) (attempts : ℕ) (ctx : PackCtx) (near : List Rectangle) (min-x max-x min-y max-y : Float) where
   unfoldable pub lands : Bool → List Point → Point → Bool
   lands honor placed p =
@@ -53,11 +60,7 @@ module _ (piece : Piece) (n : ℕ) (attempts : ℕ) (ctx : PackCtx) (near : List
   -- 'glyphs: while placed.len() < n, with `left` to place
   unfoldable pub glyphs : Bool → ℕ → Thrown → Thrown
   glyphs honor zero t = t
-  glyphs honor (suc left) t = next (throw honor attempts (t .placed) (t .rng))
-    where
-      next : Dart → Thrown
-      next (hit p rng) = glyphs honor left (record { placed = t .placed ++ p ∷ []; rng = rng })
-      next (miss rng) = record { placed = t .placed; rng = rng }
+  glyphs honor (suc left) t = afterDart (glyphs honor left) t (throw honor attempts (t .placed) (t .rng))
 
   -- for honor_obstacles in [true, false]
   unfoldable pub throws : Stream → Thrown

@@ -1,9 +1,10 @@
 -- discs.rs, `pack_region`: a zone's marks over its pieces. Definitions only.
 use mathlib.Core.List.{List, [], _∷_, map}
-use mathlib.Core.Bool.{cond}
+use mathlib.Core.Bool.{true, false, cond}
 use Prim.Native.Nat.{ℕ, _+_}
 use lib.Dec.{eqb}
 use lib.ListN.{length}
+use lib.Ieee.{Float}
 use Rattle.glyphs.specs.Apportion.{apportion}
 use Rattle.glyphs.specs.Hash.{fnv1a}
 use Rattle.glyphs.specs.Stream.{seeded}
@@ -28,7 +29,7 @@ pub record Zone : Type 0 where
   pub pieces : List Piece
 
 -- pieces.iter().map(|p| p.area())
-abbrev pub areas : List Piece → List _
+abbrev pub areas : List Piece → List Float
 areas pieces = map pieceArea pieces
 
 unfoldable pub quotas : Zone → List ℕ

@@ -1,5 +1,5 @@
 -- discs.rs, `pack_uniform_piece`: the lattice packer for one piece. Definitions only.
-use mathlib.Core.Bool.{Bool, not, cond, _&&_, _||_}
+use mathlib.Core.Bool.{Bool, true, not, cond, _&&_, _||_}
 use mathlib.Core.List.{List, [], _∷_}
 use Prim.Native.Nat.{ℕ, zero, suc, _+_}
 use lib.Dec.{eqb, leb, ltb}
@@ -10,10 +10,12 @@ use Rattle.float.specs.Order.{sqrt, max}
 use Rattle.glyphs.specs.declared.mode.PackMode.{PackMode}
 use Rattle.glyphs.specs.declared.rect.Point.{Point}
 use Rattle.glyphs.specs.declared.rect.Rectangle.{Rectangle}
-use Rattle.glyphs.specs.Bounds.{Bounds, Box, Nothing, ringBounds}
+use Rattle.glyphs.specs.declared.bounds.Bounds.{Bounds}
+use Rattle.glyphs.specs.declared.bounds.Bounds.the-variants.{Box, Nothing}
+use Rattle.glyphs.specs.Bounds.{ringBounds}
 use Rattle.glyphs.specs.Rect.{obstaclesNear}
 use Rattle.regions.specs.Ring.{Piece, outer}
-use Rattle.regions.specs.Deepest.{Poi, none, found, poiWithHoles}
+use Rattle.regions.specs.Deepest.{Poi, nowhere, found, poiWithHoles}
 use Rattle.discs.specs.Context.{inset, spacing}
 use Rattle.discs.specs.Escape.{point, escapeObstacles}
 use Rattle.discs.specs.Lattice.{HexCells, Cap, never, at, latticeValidCells, takeCells}
@@ -70,7 +72,7 @@ module _ (piece : Piece) (n : ℕ) (ctx : PackCtx) (rectangular : Bool) (near : 
 
 -- from the deepest point, moved off the obstacles
 unfoldable pub packFrom : Poi → Piece → ℕ → PackCtx → List Rectangle → Bool → List Point
-packFrom none piece n ctx obstacles rectangular = []
+packFrom nowhere piece n ctx obstacles rectangular = []
 packFrom (found x y clearance) piece n ctx obstacles rectangular =
     let near = localTo piece obstacles (inset ctx) in
     let anchor = cond (eqb (length near) 0) (point x y) (escapeObstacles (point x y) piece near (inset ctx)) in

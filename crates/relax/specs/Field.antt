@@ -72,7 +72,7 @@ pushes field i p j (q ∷ qs) f = pushes field i p (j + 1) qs (cond (eqb j i) f 
 unfoldable pub clearanceGradient : Field → Point → Gradient
 clearanceGradient field p =
     let h = field .probe in
-    let clearance = λ (x y : Float). signedClearance x y (field .piece) in
+    let clearance : Float → Float → Float = λ x y. signedClearance x y (field .piece) in
     let gx = clearance (p .x +ᶠ h) (p .y) -ᶠ clearance (p .x -ᶠ h) (p .y) in
     let gy = clearance (p .x) (p .y +ᶠ h) -ᶠ clearance (p .x) (p .y -ᶠ h) in
     let norm = hypot gx gy in

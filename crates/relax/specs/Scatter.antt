@@ -29,16 +29,17 @@ pub record Scatter : Type 0 where
 abbrev pub moved : Scatter → ℕ → Point → Float → Scatter
 moved s i candidate c = record { points = set (s .points) i candidate; clearance = set (s .clearance) i c }
 
+-- what becomes of a candidate: the mark moves there, or what else is tried
+abbrev pub settle : Scatter → ℕ → Point → Acceptance → Scatter → Scatter
+settle s i candidate (Clear c) otherwise = moved s i candidate c
+settle s i candidate Refused otherwise = otherwise
+
 -- for _ in 0..=BACKTRACKS: the step, halved where it is refused, with `tries` left
 unfoldable pub tryStep : Field → ℕ → Bool → Point → Float → Float → ℕ → Float → Scatter → Scatter
 tryStep field i honoring p ux uy zero step s = s
 tryStep field i honoring p ux uy (suc tries) step s =
-    let candidate = record { x = p .x +ᶠ ux *ᶠ step; y = p .y +ᶠ uy *ᶠ step } in
-    settle candidate (accepts field candidate i (s .points) honoring)
-  where
-    settle : Point → Acceptance → Scatter
-    settle candidate (Clear c) = moved s i candidate c
-    settle candidate Refused = tryStep field i honoring p ux uy tries (step *ᶠ ½ᶠ) s
+    let candidate : Point = record { x = p .x +ᶠ ux *ᶠ step; y = p .y +ᶠ uy *ᶠ step } in
+    settle s i candidate (accepts field candidate i (s .points) honoring) (tryStep field i honoring p ux uy tries (step *ᶠ ½ᶠ) s)
 
 -- one mark of a sweep
 unfoldable pub relaxPoint : Spreading → Field → List Bool → Float → Scatter → ℕ → Scatter
