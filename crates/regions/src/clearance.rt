@@ -23,7 +23,7 @@ fn along_edge(dot: f64, len2: f64) -> f64
 }
 
 // The square of the distance from (px, py) to the edge from a to b.
-fn edge_square(px: f64, py: f64, ax: f64, ay: f64, bx: f64, by: f64) -> f64
+pub fn edge_square(px: f64, py: f64, ax: f64, ay: f64, bx: f64, by: f64) -> f64
     ensures { λ r. ⌜ r ≡ edgeSquare px py ax ay bx by ⌝ }
 {
     let dx = bx - ax;
@@ -34,7 +34,7 @@ fn edge_square(px: f64, py: f64, ax: f64, ay: f64, bx: f64, by: f64) -> f64
     ex * ex + ey * ey
 }
 
-fn lesser(d: f64, best: f64) -> f64
+pub fn lesser(d: f64, best: f64) -> f64
     ensures { λ r. ⌜ r ≡ closer d best ⌝ }
 {
     if d < best {

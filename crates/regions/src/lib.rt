@@ -3,4 +3,5 @@
 pub mod area;
 pub mod clearance;
 pub mod inside;
+pub mod margin;
 pub mod ring;

@@ -1,59 +1,17 @@
--- `ring_bounds` meets its contract. The invariant: each extent is that of the first `i` vertices.
--- Rests on the contracts of `min` and `max`.
-use Prim.Native.Nat.{_≤_, _-_, _/_}
-use mathlib.Core.Path.{_≡_}
-use native.Mathlib.Nat.{le-antisymm}
-use native.Mathlib.Numerals.{add-one}
+-- `ring_bounds` meets its contract: the extents where both are above 0.
+-- Rests on the contract of `ring_extents`.
 use borrow.Author.Needs.{needs}
 use borrow.Author.Tests.{lt-ltb, le-ltb}
-use lib.ListN.{length}
-use Rattle.float.specs.Ops.{∞}
-use Rattle.float.specs.Order.{min, max}
-use Rattle.glyphs.specs.Points.{xAt, yAt}
-use Rattle.glyphs.specs.Bounds.{extent, -∞, ringBounds, infinite, minus-infinite}
+use Rattle.glyphs.specs.Bounds.{boxOf, ringBounds}
 use Rattle.glyphs.proofs.bounds.ring_bounds.Statement.{statement}
 use Rattle.glyphs.proofs.bounds.ring_bounds.Tie as tie
 
-abbrev Inv-loop : tie.InvT-loop
-Inv-loop ring n min-x₀ max-x₀ min-y₀ max-y₀ i₀ min-x max-x min-y max-y i =
-    (i ≤ n)
-    × (n ≡ length ring / 2)
-    × (min-x ≡ extent min xAt ∞ ring i)
-    × (max-x ≡ extent max xAt -∞ ring i)
-    × (min-y ≡ extent min yAt ∞ ring i)
-    × (max-y ≡ extent max yAt -∞ ring i)
-
-abbrev μ-loop : tie.MeasureT-loop
-μ-loop ring n min-x₀ max-x₀ min-y₀ max-y₀ i₀ min-x max-x min-y max-y i = n - i
-
-loop-holds : tie.Need-loop-holds Inv-loop μ-loop
-unfolding extent
-loop-holds c = (search needs, search needs, rw infinite, rw minus-infinite, rw infinite, rw minus-infinite)
-
-loop-again : tie.Need-loop-again Inv-loop μ-loop
-unfolding extent
-loop-again c = (search needs, search needs, rw add-one (cc), rw add-one (cc), rw add-one (cc), rw add-one (cc))
-
-returns-2 : tie.Need-returns-2 Inv-loop μ-loop
-unfolding ringBounds
-returns-2 c =
-    rw (le-ltb _ _ (c .before .before .before .if1 .left)) (cc (le-antisymm (c .before .before .loop .inv .0) (c .before .loop-test .left)))
-
 pub ring-bounds-spec : {M : Type 1} → statement M
-unfolding ringBounds
+unfolding ringBounds boxOf
 ring-bounds-spec =
     tie.close
-    (tie.spec Inv-loop μ-loop
+    (tie.spec
     (λ c. rw (lt-ltb _ _ (c .if1 .taken)))
-    loop-holds
     (λ c κs. search needs)
-    (λ c κs. search needs)
-    (λ c κs. search needs)
-    (λ c κs. search needs)
-    (λ c κs. search needs)
-    (λ c κs. search needs)
-    (λ c. search needs)
-    (λ c. search needs)
-    loop-again
-    (λ c κs. search needs)
-    returns-2)
+    (λ c. rw (le-ltb _ _ (c .before .before .before .before .if1 .left), ← c .before .before .before .ring-extents .ensures, c .if2 .taken))
+    (λ c. rw (le-ltb _ _ (c .before .before .before .before .if1 .left), ← c .before .before .before .ring-extents .ensures, c .if2 .left)))
