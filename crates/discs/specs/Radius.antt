@@ -15,8 +15,8 @@ use Rattle.regions.specs.Ring.{Piece}
 use Rattle.regions.specs.Deepest.{Poi, nowhere, found, poiWithHoles}
 use Rattle.relax.specs.declared.Spreading.{Spreading}
 use Rattle.discs.specs.Region.{Zone, areas, packRegion, placedIn}
-use Rattle.discs.specs.Uniform.{1e-3ᶠ}
-use Rattle.discs.specs.declared.context.PackCtx.{PackCtx}
+use Rattle.lattice.specs.Uniform.{1e-3ᶠ}
+use Rattle.lattice.specs.declared.context.PackCtx.{PackCtx}
 use Rattle.discs.specs.declared.options.GlyphOptions.{GlyphOptions}
 use Rattle.discs.specs.declared.options.BoundaryGap.{BoundaryGap}
 use Rattle.discs.specs.declared.options.BoundaryGap.the-variants.{Follows, Own}

@@ -1,6 +1,6 @@
 -- discs.rs, `pack_region`: a zone's marks over its pieces. Definitions only.
 use mathlib.Core.List.{List, [], _∷_, map}
-use mathlib.Core.Bool.{true, false, cond}
+use mathlib.Core.Bool.{Bool, true, false, cond}
 use Prim.Native.Nat.{ℕ, _+_}
 use lib.Dec.{eqb}
 use lib.ListN.{length}
@@ -16,10 +16,12 @@ use Rattle.glyphs.specs.declared.stream.Stream.{Stream}
 use Rattle.regions.specs.Ring.{Piece}
 use Rattle.regions.specs.Area.{pieceArea}
 use Rattle.relax.specs.declared.Spreading.{Spreading}
-use Rattle.discs.specs.Uniform.{packUniformPiece}
-use Rattle.discs.specs.LowDiscrepancy.{packLowDiscrepancyPiece}
-use Rattle.discs.specs.Random.{Thrown, packRandomPiece}
-use Rattle.discs.specs.declared.context.PackCtx.{PackCtx}
+use Rattle.lattice.specs.Escape.{point}
+use Rattle.lattice.specs.Uniform.{packAround}
+use Rattle.scatter.specs.LowDiscrepancy.{Anchor, none, loneAnchor, packScatter}
+use Rattle.regions.specs.Deepest.{Poi, nowhere, found, poiWithHoles}
+use Rattle.scatter.specs.Random.{Thrown, packRandomPiece}
+use Rattle.lattice.specs.declared.context.PackCtx.{PackCtx}
 use Rattle.discs.specs.declared.options.GlyphOptions.{GlyphOptions}
 
 -- a region: its key, the marks it wants, its pieces
@@ -35,14 +37,28 @@ areas pieces = map pieceArea pieces
 unfoldable pub quotas : Zone → List ℕ
 quotas zone = apportion (zone .count) (areas (zone .pieces))
 
+-- pack_uniform_piece, from the deepest point
+unfoldable pub packUniformPiece : Poi → Piece → ℕ → PackCtx → List Rectangle → Bool → List Point
+packUniformPiece nowhere piece n ctx obstacles rectangular = []
+packUniformPiece (found x y clearance) piece n ctx obstacles rectangular = packAround (point x y) piece n ctx obstacles rectangular
+
+-- pack_low_discrepancy_piece, from the deepest point
+unfoldable pub packLowDiscrepancyPiece : Poi → Piece → ℕ → PackCtx → List Rectangle → List Point
+packLowDiscrepancyPiece nowhere piece n ctx obstacles = packScatter none piece n ctx obstacles
+packLowDiscrepancyPiece (found x y clearance) piece n ctx obstacles = packScatter (loneAnchor (point x y) piece n ctx obstacles) piece n ctx obstacles
+
+-- poi_with_holes(std::slice::from_ref(piece), precision)
+abbrev pub deepestOf : GlyphOptions → Piece → Poi
+deepestOf options piece = poiWithHoles (piece ∷ []) (options .precision)
+
 -- one piece, by the arrangement; only Random draws from the stream
 unfoldable pub packPiece : Spreading → GlyphOptions → GlyphArrangement → PackCtx → List Rectangle → Piece → ℕ → Stream → Thrown
 packPiece numbers options Uniform ctx obstacles piece quota rng =
-    record { placed = packUniformPiece piece quota (options .precision) ctx obstacles false; rng = rng }
+    record { placed = packUniformPiece (deepestOf options piece) piece quota ctx obstacles false; rng = rng }
 packPiece numbers options Rectangular ctx obstacles piece quota rng =
-    record { placed = packUniformPiece piece quota (options .precision) ctx obstacles true; rng = rng }
+    record { placed = packUniformPiece (deepestOf options piece) piece quota ctx obstacles true; rng = rng }
 packPiece numbers options LowDiscrepancy ctx obstacles piece quota rng =
-    record { placed = packLowDiscrepancyPiece piece quota (options .precision) ctx obstacles; rng = rng }
+    record { placed = packLowDiscrepancyPiece (deepestOf options piece) piece quota ctx obstacles; rng = rng }
 packPiece numbers options Random ctx obstacles piece quota rng =
     packRandomPiece numbers piece quota (options .«max_attempts») ctx obstacles rng
 

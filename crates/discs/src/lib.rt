@@ -1,3 +1,2 @@
-// discs.rs: the disc packer.
-pub mod context;
+// discs.rs: regions over their pieces, the radius, and all marks.
 pub mod options;

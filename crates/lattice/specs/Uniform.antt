@@ -15,12 +15,11 @@ use Rattle.glyphs.specs.declared.bounds.Bounds.the-variants.{Box, Nothing}
 use Rattle.glyphs.specs.Bounds.{ringBounds}
 use Rattle.glyphs.specs.Rect.{obstaclesNear}
 use Rattle.regions.specs.Ring.{Piece, outer}
-use Rattle.regions.specs.Deepest.{Poi, nowhere, found, poiWithHoles}
-use Rattle.discs.specs.Context.{inset, spacing}
-use Rattle.discs.specs.Escape.{point, escapeObstacles}
-use Rattle.discs.specs.Lattice.{HexCells, Cap, never, at, latticeValidCells, takeCells}
-use Rattle.discs.specs.declared.context.PackCtx.{PackCtx}
-use Rattle.discs.specs.declared.context.Lattice.{Lattice}
+use Rattle.lattice.specs.Context.{inset, spacing}
+use Rattle.lattice.specs.Escape.{escapeObstacles}
+use Rattle.lattice.specs.Lattice.{HexCells, Cap, never, at, latticeValidCells, takeCells}
+use Rattle.lattice.specs.declared.context.PackCtx.{PackCtx}
+use Rattle.lattice.specs.declared.context.Lattice.{Lattice}
 
 -- 1e-3
 abbrev pub 1e-3ᶠ : Float
@@ -71,12 +70,8 @@ module _ (piece : Piece) (n : ℕ) (ctx : PackCtx) (rectangular : Bool) (near : 
       (spreadCells (ringBounds (outer piece)) at-min honoring))
 
 -- from the deepest point, moved off the obstacles
-unfoldable pub packFrom : Poi → Piece → ℕ → PackCtx → List Rectangle → Bool → List Point
-packFrom nowhere piece n ctx obstacles rectangular = []
-packFrom (found x y clearance) piece n ctx obstacles rectangular =
+unfoldable pub packAround : Point → Piece → ℕ → PackCtx → List Rectangle → Bool → List Point
+packAround poi piece n ctx obstacles rectangular =
     let near = localTo piece obstacles (inset ctx) in
-    let anchor = cond (eqb (length near) 0) (point x y) (escapeObstacles (point x y) piece near (inset ctx)) in
+    let anchor = cond (eqb (length near) 0) poi (escapeObstacles poi piece near (inset ctx)) in
     packLattice piece n ctx rectangular near anchor
-
-unfoldable pub packUniformPiece : Piece → ℕ → Float → PackCtx → List Rectangle → Bool → List Point
-packUniformPiece piece n precision ctx obstacles rectangular = packFrom (poiWithHoles (piece ∷ []) precision) piece n ctx obstacles rectangular

@@ -1,7 +1,7 @@
 -- discs.rs, `PackCtx`: inset and spacing. Definitions only.
 use lib.Ieee.{Float}
 use Rattle.float.specs.Ops.{_+ᶠ_, _*ᶠ_, 1ᶠ, 2ᶠ}
-use Rattle.discs.specs.declared.context.PackCtx.{PackCtx}
+use Rattle.lattice.specs.declared.context.PackCtx.{PackCtx}
 
 unfoldable pub inset : PackCtx → Float
 inset ctx = ctx .r *ᶠ (1ᶠ +ᶠ ctx .«boundary_gap»)

@@ -20,11 +20,10 @@ use Rattle.glyphs.specs.Halton.{radicalInverse}
 use Rattle.glyphs.specs.Rect.{clearOfObstacles}
 use Rattle.regions.specs.Ring.{Piece, outer}
 use Rattle.regions.specs.Clearance.{signedClearance}
-use Rattle.regions.specs.Deepest.{Poi, nowhere, found, poiWithHoles}
-use Rattle.discs.specs.Context.{inset, spacing}
-use Rattle.discs.specs.Escape.{point, squaredDistance, escapeObstacles}
-use Rattle.discs.specs.Uniform.{localTo}
-use Rattle.discs.specs.declared.context.PackCtx.{PackCtx}
+use Rattle.lattice.specs.Context.{inset, spacing}
+use Rattle.lattice.specs.Escape.{point, squaredDistance, escapeObstacles}
+use Rattle.lattice.specs.Uniform.{localTo}
+use Rattle.lattice.specs.declared.context.PackCtx.{PackCtx}
 
 -- ---- cells
 
@@ -93,16 +92,15 @@ module _ (piece : Piece) (n : ℕ) (ctx : PackCtx) (near : List Rectangle) (anch
       let placed = pass true (budget n) 0 [] in
       cond (ctx .mode .«strict_obstacles» || eqb (length near) 0) placed (pass false (budget n) 0 placed)
 
--- the deepest point, moved off the obstacles, for a lone mark
-unfoldable pub loneAnchor : ℕ → Poi → Piece → List Rectangle → Float → Anchor
-loneAnchor n nowhere piece near inset = none
-loneAnchor n (found x y clearance) piece near inset = cond (eqb n 1) (some (escapeObstacles (point x y) piece near inset)) none
+-- `anchor` is the place that a lone mark tries first
+unfoldable pub packWithin : Bounds → Anchor → Piece → ℕ → PackCtx → List Rectangle → List Point
+packWithin Nothing anchor piece n ctx obstacles = []
+packWithin (Box min-x max-x min-y max-y) anchor piece n ctx obstacles =
+    passes piece n ctx (localTo piece obstacles (inset ctx)) anchor min-x max-x min-y max-y
 
-unfoldable pub packWithin : Bounds → Piece → ℕ → Float → PackCtx → List Rectangle → List Point
-packWithin Nothing piece n precision ctx obstacles = []
-packWithin (Box min-x max-x min-y max-y) piece n precision ctx obstacles =
-    let near = localTo piece obstacles (inset ctx) in
-    passes piece n ctx near (loneAnchor n (poiWithHoles (piece ∷ []) precision) piece near (inset ctx)) min-x max-x min-y max-y
+unfoldable pub packScatter : Anchor → Piece → ℕ → PackCtx → List Rectangle → List Point
+packScatter anchor piece n ctx obstacles = cond (eqb n 0) [] (packWithin (ringBounds (outer piece)) anchor piece n ctx obstacles)
 
-unfoldable pub packLowDiscrepancyPiece : Piece → ℕ → Float → PackCtx → List Rectangle → List Point
-packLowDiscrepancyPiece piece n precision ctx obstacles = cond (eqb n 0) [] (packWithin (ringBounds (outer piece)) piece n precision ctx obstacles)
+-- (n == 1).then(|| the deepest point).map(escape_obstacles), from the deepest point
+unfoldable pub loneAnchor : Point → Piece → ℕ → PackCtx → List Rectangle → Anchor
+loneAnchor poi piece n ctx obstacles = cond (eqb n 1) (some (escapeObstacles poi piece (localTo piece obstacles (inset ctx)) (inset ctx))) none

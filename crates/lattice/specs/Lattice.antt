@@ -21,8 +21,8 @@ use Rattle.glyphs.specs.Bounds.{ringBounds}
 use Rattle.glyphs.specs.Rect.{clearOfObstacles, isFinite}
 use Rattle.regions.specs.Ring.{Piece, outer}
 use Rattle.regions.specs.Clearance.{signedClearance}
-use Rattle.discs.specs.Escape.{point, squaredDistance}
-use Rattle.discs.specs.declared.context.Lattice.{Lattice}
+use Rattle.lattice.specs.Escape.{point, squaredDistance}
+use Rattle.lattice.specs.declared.context.Lattice.{Lattice}
 
 -- ---- whole numbers
 

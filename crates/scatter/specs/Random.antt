@@ -21,10 +21,10 @@ use Rattle.regions.specs.Ring.{Piece, outer}
 use Rattle.regions.specs.Clearance.{signedClearance}
 use Rattle.relax.specs.declared.Spreading.{Spreading}
 use Rattle.relax.specs.Scatter.{relaxScatter}
-use Rattle.discs.specs.Context.{inset, spacing}
-use Rattle.discs.specs.Escape.{point, squaredDistance}
-use Rattle.discs.specs.Uniform.{localTo}
-use Rattle.discs.specs.declared.context.PackCtx.{PackCtx}
+use Rattle.lattice.specs.Context.{inset, spacing}
+use Rattle.lattice.specs.Escape.{point, squaredDistance}
+use Rattle.lattice.specs.Uniform.{localTo}
+use Rattle.lattice.specs.declared.context.PackCtx.{PackCtx}
 
 -- the marks placed, and the stream after them
 pub record Thrown : Type 0 where

@@ -1,6 +1,6 @@
 // discs.rs, `PackCtx`, without its obstacles, and `Lattice`.
 ghost use mathlib.Core.Path.{_≡_};
-ghost use Rattle.discs.specs.Context.{inset, spacing};
+ghost use Rattle.lattice.specs.Context.{inset, spacing};
 use glyphs::mode::PackMode;
 
 // What a packer packs at: the radius, the gaps as parts of it, and the mode.
