@@ -1,1 +1,4 @@
 pub mod Walk
+pub mod Thrown
+pub mod Relaxed
+pub mod Counts
