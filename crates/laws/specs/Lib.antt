@@ -1,6 +1,7 @@
 pub mod Any
 pub mod Casts
 pub mod Choice
+pub mod Every
 pub mod Folds
 pub mod Lists
 pub mod Orders
