@@ -1,5 +1,6 @@
 pub mod Apportion
 pub mod Fair
+pub mod FairExamples
 pub mod Halton
 pub mod HandOut
 pub mod Hash

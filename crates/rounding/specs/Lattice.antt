@@ -1,5 +1,5 @@
 -- LATTICE: two different cells of a hexagonal or a rectangular lattice, each coordinate rounded as the source rounds it, are at least the spacing less 2 ^ -30 apart.
--- Rests on `Steps` (where a point lies) and `Row` (the row height). Anchor and steps are 65,536 at most, so i is 2 ^ 36 at most and j 2 ^ 38: a job's are below 2 ^ 32.
+-- Rests on `Steps` (where a point lies) and `Row` (the row height). The anchor is 65,536 at most, i steps 131,072, the spacing 2 ^ -20 to 65,536; so i may be 2 ^ 37, and a job's are 2 ^ 32 at most.
 use mathlib.Core.Path.{_≡_, refl, sym, ap, subst}
 use mathlib.Core.Logic.{_⊎_, inl, inr}
 use mathlib.Core.Bool.{Bool, true, false}
@@ -91,7 +91,7 @@ module _ (s a : Float) (A : Sized a 65536) (st : Step s) where
   across-gap o o' i i' n r r' h =
       let x = across a (offset o s) i s in
       let x' = across a (offset o' s) i' s in
-      let l = steps-apart E (mag s) n (851968 * U + 4 * H) half (val x ⊕ val x) (val x' ⊕ val x') (val a ⊕ val a) (halfSteps o i) (halfSteps o' i') (lit< tt)
+      let l = steps-apart E (mag s) n (1114112 * U + 4 * H) half (val x ⊕ val x) (val x' ⊕ val x') (val a ⊕ val a) (halfSteps o i) (halfSteps o' i') (lit< tt)
       (across-close a s o i A st r) (across-close a s o' i' A st r') h (omega (arith, tiny-is, tiny-big, half-is)) in
       omega (arith, l)
 
@@ -100,11 +100,11 @@ module _ (s a : Float) (A : Sized a 65536) (st : Step s) where
   along-gap j j' n r r' h =
       let y = along a j s in
       let y' = along a j' s in
-      let l = steps-apart E (2 * mag s) n (2 * (196608 * U + H)) half (val y ⊕ val y) (val y' ⊕ val y') (val a ⊕ val a) (int j) (int j') (lit< tt)
+      let l = steps-apart E (2 * mag s) n (2 * (327680 * U + H)) half (val y ⊕ val y) (val y' ⊕ val y') (val a ⊕ val a) (int j) (int j') (lit< tt)
       (twice y j (along-close a s j A st r)) (twice y' j' (along-close a s j' A st r')) h (omega (arith, tiny-is, tiny-big, half-is)) in
       omega (arith, l)
     where
-      twice : (y : Float) (j : ℤ) → Close E (196608 * U + H) (val y) (val a ⊕ int j ⊗ nat (mag s)) → Close E (2 * (196608 * U + H)) (val y ⊕ val y) (val a ⊕ val a ⊕ int j ⊗ nat (2 * mag s))
+      twice : (y : Float) (j : ℤ) → Close E (327680 * U + H) (val y) (val a ⊕ int j ⊗ nat (mag s)) → Close E (2 * (327680 * U + H)) (val y ⊕ val y) (val a ⊕ val a ⊕ int j ⊗ nat (2 * mag s))
       twice y j c = record { above = omega (arith, c .above); below = omega (arith, c .below) }
 
 -- S across and 2 R along, each short by d, with d for 2 ^ -31 and t for 2 ^ -30

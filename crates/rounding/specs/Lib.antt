@@ -24,3 +24,4 @@ pub mod Lattice
 pub mod Walk
 pub mod Shares
 pub mod Examples
+pub mod Lengths

@@ -17,7 +17,7 @@ use Rattle.laws.specs.Orders.{lt-or-le}
 use Rattle.rounding.specs.Signed.{signed}
 use Rattle.rounding.specs.Relative.{Near}
 use Rattle.rounding.specs.Nearest.{rounds, rounds-whole}
-use Rattle.rounding.specs.Value.{U, U-pos, E, H, sgn, mag, Num, Digits, digits, mag-under, mag-of, sgn-of, fine-of}
+use Rattle.rounding.specs.Value.{U, U-pos, E, H, sgn, mag, Num, Digits, mag-of, sgn-of, fine-of}
 use Rattle.rounding.specs.Comparison.{le→≼}
 
 -- ---- the result in units, where it is finite
@@ -112,10 +112,6 @@ unfolding U
 kept-exact s g d h =
     of-value s g (2 ^ low binary64) g
     (round-exact binary64 s g (2 ^ low binary64) (d .q) (d .j) (pow-pos (low binary64)) (d .small) (subst (λ (z : ℕ). z < overflow binary64) (d .is) h) (ap (λ (z : ℕ). z * 2 ^ low binary64) (d .is)))
-
--- x is its own rounding
-pub own-finite : (s : Bool) (x : Float) → Num x → T (finite (round binary64 s (mag x) U))
-own-finite s x p = kept-exact s (mag x) (digits x p) (mag-under x p) .num .fine
 
 from-overflow : round binary64 false (overflow binary64) (2 ^ low binary64) ≡ inf false
 unfolding round

@@ -14,6 +14,7 @@ use lib.Ieee.Scale.{finite, round-same}
 use Rattle.float.specs.Ops.{_+ᶠ_, _-ᶠ_, 0ᶠ}
 use Rattle.rounding.specs.Signed.{Exact, signed, nat, _⊕_, _≼_}
 use Rattle.rounding.specs.Value.{U, U-pos, sgn, mag, val, Num, digits-zero}
+use Rattle.rounding.specs.Bounds.{Sized}
 use Rattle.rounding.specs.Rounded.{round-case, round-bounded}
 use Rattle.rounding.specs.Operations.{IsRound, add-is}
 use Rattle.rounding.specs.Errors.{Rounding, Product, Quotient}
@@ -32,6 +33,9 @@ zero-mag = refl
 pub zero-val : val 0ᶠ ≡ nat 0
 unfolding ofBits sgn mag U
 zero-val = refl
+
+pub zero-sized : Sized 0ᶠ 0
+zero-sized = record { num = zero-num; size = rw zero-mag (omega arith) }
 
 -- a number above 0 has no minus sign
 pub positive : (x : Float) → 0 < mag x → Nonneg x → sgn x ≡ false

@@ -4,7 +4,7 @@ use mathlib.Core.Path.{_≡_, refl, sym, ap, _∙_}
 use mathlib.Core.Logic.{inl, inr}
 use mathlib.Core.Bool.{Bool, true, false}
 use Prim.Native.Nat.{ℕ, zero, suc, _+_, _-_, _*_, _/_, _^_, _≤_, _<_}
-use native.Mathlib.Nat.{mul-one, mul-le-mul-right, eq-of-mul-eq-mul-right, le-of-mul-le-mul-right, lt-of-mul-lt-mul-right, mul-lt-mul-of-pos-right, div-mul-le-self, lt-div-mul-add}
+use native.Mathlib.Nat.{le-trans, le-of-eq, lt-of-le-of-lt, mul-one, mul-le-mul-right, eq-of-mul-eq-mul-right, le-of-mul-le-mul-right, lt-of-mul-lt-mul-right, mul-lt-mul-of-pos-right, div-mul-le-self, lt-div-mul-add}
 use native.Mathlib.Omega.{arith}
 use lib.IntN.{ℤ, pos, negsuc, natAbs}
 use lib.Dec.{T, leb→le, ltb→lt, lit<}
@@ -22,6 +22,7 @@ use Rattle.rounding.specs.Relative.{Near, cancel}
 use Rattle.rounding.specs.Value.{U, U-pos, E, H, sgn, mag, val, Num, digits-whole, significand, own, value-mag, fine-of, sgn-of}
 use Rattle.rounding.specs.Rounded.{B}
 use Rattle.rounding.specs.Operations.{IsRound}
+use Rattle.rounding.specs.Bounds.{Sized}
 use Rattle.rounding.specs.Errors.{Rounding, rounding, size-bound, Product}
 
 -- ---- integers, read as exact numbers
@@ -90,6 +91,9 @@ ofInt-exact z h = whole z h (ofInt-law z (omega arith))
     whole : (z : ℤ) → natAbs z < E → Rounding (ofInt binary64 z) (ones z) → IsWhole (ofInt binary64 z) z
     whole (pos n) h r = let a = at (ofInt binary64 (pos n)) false n (ones (pos n)) (omega arith) h r in record { num = r .num; is = omega (arith, a .0); size = a .1; sign = a .2 }
     whole (negsuc n) h r = let a = at (ofInt binary64 (negsuc n)) true (suc n) (ones (negsuc n)) (omega arith) h r in record { num = r .num; is = omega (arith, a .0); size = a .1; sign = a .2 }
+
+pub int-sized : (z : ℤ) (k : ℕ) → natAbs z ≤ k → k < E → Sized (ofInt binary64 z) k
+int-sized z k h l = let w = ofInt-exact z (lt-of-le-of-lt h l) in record { num = w .num; size = le-trans (le-of-eq (w .size)) (mul-le-mul-right U h) }
 
 -- a whole number times y
 pub whole-product : (x y z : Float) (i : ℤ) → IsWhole x i → Product x y z → Near E 1 H (mag z) (natAbs i * mag y)
