@@ -6,7 +6,7 @@ use mathlib.Core.Bool.{Bool, true, false}
 use Prim.Native.Nat.{ℕ, _+_, _*_, _≤_, _<_}
 use native.Mathlib.Nat.{le-of-mul-le-mul-right, mul-le-mul-right}
 use native.Mathlib.Omega.{arith}
-use lib.IntN.{ℤ}
+use lib.IntN.{ℤ, sucℤ}
 use lib.Dec.{lit<}
 use lib.Ieee.{Float, unlike}
 use Rattle.float.specs.Ops.{_-ᶠ_, _/ᶠ_}
@@ -16,7 +16,7 @@ use Rattle.rounding.specs.Relative.{Close, close-wider, close-signed}
 use Rattle.rounding.specs.Value.{U, U-pos, E, H, sgn, mag, val}
 use Rattle.rounding.specs.Errors.{sub-of-finite, div-of-finite}
 use Rattle.rounding.specs.Bounds.{Sized, sub-sized, div-sized}
-use Rattle.rounding.specs.Whole.{int}
+use Rattle.rounding.specs.Integers.{int, int-suc, Order, same, below, above, order}
 use Rattle.rounding.specs.Casts.{IsFloor, floor-i64}
 use Rattle.rounding.specs.Distance.{Length, length-above, length-plus, tiny, tiny-is, tiny-big, gap, gap-of, gap-sym, Spaced, spaced-across, spaced-along}
 
@@ -95,6 +95,20 @@ cells-apart x x' min cell X X' M c h =
 -- the numbers of two cells are two or more apart
 unfoldable pub TwoApart : ℤ → ℤ → Type 0
 TwoApart a b = (int a ⊕ nat 2 ≼ int b) ⊎ (int b ⊕ nat 2 ≼ int a)
+
+-- and so they are where neither is next to the other
+pub two-apart : (a b : ℤ) → (a ≡ b → ⊥) → (b ≡ sucℤ a → ⊥) → (a ≡ sucℤ b → ⊥) → TwoApart a b
+unfolding TwoApart
+two-apart a b n s t = go (order a b) (order b (sucℤ a)) (order a (sucℤ b))
+  where
+    go : Order a b → Order b (sucℤ a) → Order a (sucℤ b) → (int a ⊕ nat 2 ≼ int b) ⊎ (int b ⊕ nat 2 ≼ int a)
+    go (same e) p q = absurd (n e)
+    go (below h) (same e) q = absurd (s e)
+    go (below h) (below g) q = absurd (omega (arith, h, g, int-suc a))
+    go (below h) (above g) q = inl (omega (arith, g, int-suc a))
+    go (above h) p (same e) = absurd (t e)
+    go (above h) p (below g) = absurd (omega (arith, h, g, int-suc b))
+    go (above h) p (above g) = inr (omega (arith, g, int-suc b))
 
 cells-gap : (x x' min cell : Float) → Sized x 65536 → Sized x' 65536 → Sized min 65536 → Length cell → TwoApart (cellOf x min cell) (cellOf x' min cell) → mag cell ≤ gap x x' + tiny
 unfolding TwoApart

@@ -1,4 +1,5 @@
 pub mod Signed
+pub mod Integers
 pub mod Relative
 pub mod Nearest
 pub mod Value

@@ -4,7 +4,7 @@ use mathlib.Core.Path.{_≡_, refl, sym, ap, _∙_, subst}
 use mathlib.Core.Logic.{_⊎_, inl, inr}
 use mathlib.Core.Bool.{Bool, true, false, cond}
 use Prim.Native.Nat.{ℕ, suc, _+_, _*_, _^_, _≤_, _<_}
-use native.Mathlib.Nat.{le-trans, le-of-eq, le-of-lt, le-antisymm, lt-of-not-le, mul-le-mul-right}
+use native.Mathlib.Nat.{le-trans, le-of-eq, le-of-lt, lt-of-not-le, mul-le-mul-right}
 use native.Mathlib.Omega.{arith}
 use lib.Dec.{T, ltb, ltb→lt, lit<}
 use lib.Pow.{pow-pos}
@@ -172,7 +172,3 @@ rounded-units s w f =
   where
     near : Near E 1 0 (mag (round binary64 s w U)) w
     near = subst (λ (g : ℕ). Near E 1 0 g w) (sym (made s w U (under s w U f) .size)) (unfold U in rounds-whole 52 w U U-pos)
-
--- a number of 53 digits that is met does not change
-pub same : {z : Float} {s : Bool} {n den : ℕ} (g : ℕ) → Rounded z s n den → Digits g → n ≡ g * den → mag z ≡ g
-same g r d e = le-antisymm (r .most g d (le-of-eq e)) (r .least g d (le-of-eq (sym e)))

@@ -15,7 +15,8 @@ use Rattle.rounding.specs.Value.{U, U-pos, E, H, sgn, mag, val, digits-w
 use Rattle.rounding.specs.Errors.{add-of-finite, mul-law, div-law}
 use Rattle.rounding.specs.Bounds.{Sized, add-sized}
 use Rattle.rounding.specs.Signs.{zero-num, zero-mag, zero-val}
-use Rattle.rounding.specs.Whole.{int, ofInt-exact, whole-product}
+use Rattle.rounding.specs.Integers.{int}
+use Rattle.rounding.specs.Whole.{ofInt-exact, whole-product}
 use Rattle.rounding.specs.Row.{Step, two-num, two-mag, two-plus}
 
 -- anchor + offset + i as f64 * s

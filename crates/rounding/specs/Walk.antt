@@ -17,7 +17,8 @@ use Rattle.rounding.specs.Value.{U, U-pos, H, sgn, mag}
 use Rattle.rounding.specs.Errors.{div-of-finite}
 use Rattle.rounding.specs.Bounds.{Sized, wider, sub-sized, div-sized, div-sized-by}
 use Rattle.rounding.specs.Signs.{zero-sized}
-use Rattle.rounding.specs.Whole.{int, ones, int-le}
+use Rattle.rounding.specs.Integers.{int, int-le}
+use Rattle.rounding.specs.Whole.{ones}
 use Rattle.rounding.specs.Casts.{floor-i64, ceil-i64}
 use Rattle.rounding.specs.Row.{Step, step-above, two-sized, two-mag}
 use Rattle.rounding.specs.Steps.{Reach, offset}
