@@ -1,0 +1,5 @@
+pub mod Order
+pub mod Cells
+pub mod Heap
+pub mod Queue
+pub mod Sift
