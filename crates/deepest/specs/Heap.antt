@@ -173,7 +173,7 @@ module _ (halves : List Float) where
         | inr e ↦ leaves-chain halves (A k) (A (parent k)) (A 0) (h .order k a b) (root-first A n h f (parent k) (omega arith) (omega arith) (omega arith))
       ]
 
-  itself : (a : Cell) (t : Bool) → leaves halves a a ≡ t → leaves halves a a ≡ false
+  pub itself : (a : Cell) (t : Bool) → leaves halves a a ≡ t → leaves halves a a ≡ false
   itself a true e = leaves-asym halves a a e
   itself a false e = e
 

@@ -1,16 +1,18 @@
 -- The order in which waiting cells leave: the greatest bound first, of equal bounds the first to enter.
 -- Rests on float's laws of comparisons.
-use Prim.Native.Nat.{ℕ, zero, suc, _+_, _≤_, _<_}
+use Prim.Native.Nat.{ℕ, zero, suc, _+_, _-_, _≤_, _<_}
 use mathlib.Core.Path.{_≡_, refl, sym, _∙_, subst}
 use mathlib.Core.Logic.{_⊎_, inl, inr}
 use mathlib.Core.Bool.{Bool, true, false, not, _&&_, _||_, true≢false}
-use mathlib.Core.List.{List, [], _∷_}
+use mathlib.Core.List.{List, [], _∷_, _++_, append-nil}
 use native.Mathlib.Nat.{le-antisymm}
 use native.Mathlib.Nat
+use native.Mathlib.Numerals.{add-one}
 use native.Mathlib.Omega.{arith}
 use borrow.Author.Tests.{le-ltb, ltb-true, ltb-false}
 use lib.Dec.{T, ltb}
-use lib.ListN.{getD}
+use lib.ListN.{length, getD, take, set}
+use lib.Seq.{take-all, take-suc-set, append-snoc}
 use lib.Ieee.Bits.{is-true, is-false}
 use lib.Ieee.{Float, nan, inf, fin, lt, le, isNan}
 use Rattle.laws.specs.Truth.{yes, no, or-split}
@@ -199,3 +201,17 @@ module _ (halves : List Float) where
   pub leaves-tie : (a b : Cell) → leaves halves a b ≡ false → leaves halves b a ≡ false → a .entry ≡ b .entry
   unfolding leaves
   leaves-tie a b p q = sooner-tie (boundOf halves a) (a .entry) (boundOf halves b) (b .entry) p q
+
+-- ---- laws of the table, for its loop
+
+pub halves-step :
+    (l : List Float) (h : Float) (n k : ℕ) → k < length l → k < n
+    → take k l ++ halvesFrom h (n - k) ≡ take (k + 1) (set l k h) ++ halvesFrom (h /ᶠ 2ᶠ) (n - (k + 1))
+unfolding halvesFrom
+halves-step l h n k p q =
+    let e : n - k ≡ suc (n - (k + 1)) = omega arith in
+    rw (e, add-one, take-suc-set l k h p, append-snoc (take k l) h (halvesFrom (h /ᶠ 2ᶠ) (n - suc k)))
+
+pub halves-done : (l : List Float) (h : Float) (n : ℕ) → length l ≡ n → take n l ++ halvesFrom h 0 ≡ l
+unfolding halvesFrom
+halves-done l h n e = rw (take-all n l (omega arith), append-nil)
