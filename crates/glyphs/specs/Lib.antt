@@ -1,6 +1,7 @@
 pub mod Apportion
 pub mod Bounds
 pub mod Fair
+pub mod FairExamples
 pub mod Halton
 pub mod HandOut
 pub mod Hash
