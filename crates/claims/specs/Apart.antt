@@ -3,7 +3,7 @@
 use mathlib.Core.Path.{_≡_, refl, sym, ap, subst, _∙_}
 use mathlib.Core.Bool.{Bool, true, false, not, cond, _&&_}
 use mathlib.Core.List.{List, [], _∷_, _++_, map, foldr}
-use Prim.Native.Nat.{ℕ, zero, suc, _+_, _-_, _%_, _≤_, _<_}
+use Prim.Native.Nat.{ℕ, zero, suc, _+_, _-_, _*_, _%_, _≤_, _<_}
 use native.Mathlib.Omega.{arith}
 use lib.Dec.{T, eqb}
 use lib.IntN.{ℤ, pos, negsuc}
@@ -12,11 +12,12 @@ use lib.Ieee.{Float}
 use Rattle.laws.specs.Every.{Every, every-append, every-map, Pairwise, pairwise-append}
 use Rattle.float.specs.Ops.{_+ᶠ_, _-ᶠ_, _*ᶠ_, _/ᶠ_, 2ᶠ}
 use Rattle.float.specs.Whole.{floor, ceil, as-i64}
+use Rattle.rounding.specs.Value.{U, mag}
 use Rattle.rounding.specs.Bounds.{Sized}
 use Rattle.rounding.specs.Distance.{Length, Spaced, spaced-sym}
-use Rattle.rounding.specs.Row.{hexRow}
-use Rattle.rounding.specs.Steps.{Reach, across, along, offset}
-use Rattle.rounding.specs.Walk.{between-reach}
+use Rattle.rounding.specs.Row.{Step, length-step, row-law}
+use Rattle.rounding.specs.Steps.{Reach}
+use Rattle.rounding.specs.Walk.{across-walk, along-walk}
 use Rattle.rounding.specs.Lattice.{remEuclid, odd, rectangular, hexagonal}
 use Rattle.glyphs.specs.declared.rect.Point.{Point}
 use Rattle.lattice.specs.declared.context.Lattice.{Lattice}
@@ -53,17 +54,17 @@ cells-apart s true anchor L AX AY i j i' j' ri rj ri' rj' n = rectangular s (anc
 cells-apart s false anchor L AX AY i j i' j' ri rj ri' rj' n =
     rw (← same-remainder j, ← same-remainder j') (unfold odd in hexagonal s (anchor .x) (anchor .y) L AX AY i j i' j' ri rj ri' rj' n)
 
--- the numbers of a row's first and last cell, and of the first and the last row, within reach
-pub record Within (s : Float) (aligned : Bool) (anchor : Point) (min-x max-x min-y max-y : Float) : Type 0 where
-  pub first-cell : (j : ℤ) → Reach (as-i64 (floor ((min-x -ᶠ rowOffset (record { spacing = s; rectangular = aligned }) j -ᶠ anchor .x) /ᶠ s))) s
-  pub last-cell : (j : ℤ) → Reach (as-i64 (ceil ((max-x -ᶠ rowOffset (record { spacing = s; rectangular = aligned }) j -ᶠ anchor .x) /ᶠ s))) s
-  pub first-row : Reach (as-i64 (floor ((min-y -ᶠ anchor .y) /ᶠ rowHeight (record { spacing = s; rectangular = aligned })))) (rowHeight (record { spacing = s; rectangular = aligned }))
-  pub last-row : Reach (as-i64 (ceil ((max-y -ᶠ anchor .y) /ᶠ rowHeight (record { spacing = s; rectangular = aligned })))) (rowHeight (record { spacing = s; rectangular = aligned }))
+-- the row height is a step of the walk too
+row-step : (s : Float) (aligned : Bool) → Length s → mag s ≤ 36864 * U → Step (rowHeight (record { spacing = s; rectangular = aligned })) × (mag (rowHeight (record { spacing = s; rectangular = aligned })) ≤ 36864 * U)
+unfolding rowHeight
+row-step s true L B = (length-step L, B)
+row-step s false L B = let r = row-law s L in (r .step, omega (arith, r .low, B))
 
+-- the anchor anywhere within 65,536, the box within 1,024
 module _
     (s : Float) (aligned : Bool) (anchor : Point) (min-x max-x min-y max-y : Float)
-    (L : Length s) (AX : Sized (anchor .x) 65536) (AY : Sized (anchor .y) 65536) (W : Within s aligned anchor min-x max-x min-y max-y) where
-
+    (L : Length s) (B : mag s ≤ 36864 * U) (AX : Sized (anchor .x) 65536) (AY : Sized (anchor .y) 65536)
+    (LX : Sized min-x 1024) (GX : Sized max-x 1024) (LY : Sized min-y 1024) (GY : Sized max-y 1024) where
   abbrev lat : Lattice
   lat = record { spacing = s; rectangular = aligned }
 
@@ -83,7 +84,8 @@ module _
   RowReach j = Reach j (rowHeight lat)
 
   cell-reach : (j i : ℤ) → T (leZ (i-min j) i) → T (leZ i (i-max j)) → Reach i s
-  cell-reach j i p q = between-reach (i-min j) i (i-max j) s p q (W .first-cell j) (W .last-cell j)
+  unfolding rowOffset
+  cell-reach j i p q = across-walk s (length-step L) B (isShifted lat j) (anchor .x) min-x max-x AX LX GX i p q
 
   -- what holds of every cell of a row, and of all later rows
   every-row : (P : Point → Type 0) (j : ℤ) → ((i : ℤ) → Reach i s → P (place i j)) → Every P (rowCells lat anchor min-x max-x j)
@@ -124,5 +126,5 @@ module _
       let j-min = as-i64 (floor ((min-y -ᶠ anchor .y) /ᶠ h)) in
       let j-max = as-i64 (ceil ((max-y -ᶠ anchor .y) /ᶠ h)) in
       rows (through j-min j-max)
-      (every-through j-min j-max RowReach (λ j p q. between-reach j-min j j-max h p q (W .first-row) (W .last-row)))
+      (every-through j-min j-max RowReach (λ j p q. along-walk h (row-step s aligned L B .0) (row-step s aligned L B .1) (anchor .y) min-y max-y AY LY GY j p q))
       (pairwise-through j-min j-max (λ (j k : ℤ). j ≡ k → ⊥) (λ j k p q p' q' n. n))

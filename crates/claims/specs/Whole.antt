@@ -11,7 +11,7 @@ use lib.Signed.{leZ}
 use Rattle.laws.specs.Every.{Every, every-append, every-weaken, Pairwise, pairwise-append}
 use Rattle.laws.specs.Lists.{upTo}
 use Rattle.rounding.specs.Signed.{Exact, nat, opp, _⊕_, _≈_, _≼_}
-use Rattle.rounding.specs.Whole.{int}
+use Rattle.rounding.specs.Integers.{int}
 use Rattle.lattice.specs.Lattice.{many, through}
 
 int-sub : (a b : ℕ) → int (subℕ a b) ≈ record { p = a; n = b }

@@ -9,10 +9,10 @@ use lib.Ieee.{Float, fits, ofBits, neg, add, lt}
 use Rattle.float.specs.Ops.{literal, 1ᶠ, ∞}
 use Rattle.rounding.specs.Value.{sgn, mag}
 use Rattle.rounding.specs.Shares.{Weight, none, more, sum}
 use Rattle.glyphs.specs.Apportion.{total, assigned, apportion}
-use Rattle.glyphs.specs.Fair.{Weighed, Fair, quotas-sum, quotas-fair}
-use Rattle.glyphs.specs.Unshared.{Masses, one-each-sum, infinite-weight}
-use Rattle.glyphs.specs.Unshared as Unshared
+use Rattle.claims.specs.Fair.{Weighed, Fair, quotas-sum, quotas-fair}
+use Rattle.claims.specs.Unshared.{Masses, one-each-sum, infinite-weight}
+use Rattle.claims.specs.Unshared as Unshared
 
 -- 0.1, 0.2 and 0.3
 abbrev 0·1ᶠ : Float
