@@ -7,4 +7,5 @@ pub mod Deepest
 pub mod Match
 pub mod Turns
 pub mod Search
+pub mod Fuel
 pub mod Plant
