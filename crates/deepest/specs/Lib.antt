@@ -8,4 +8,5 @@ pub mod Match
 pub mod Turns
 pub mod Search
 pub mod Fuel
+pub mod Halvings
 pub mod Plant

@@ -115,8 +115,8 @@ first-square px py ring hx hy b =
     let o : 1 < vertices ring = omega (arith, b .two) in
     rw (lt-ltb (0 + 1) (vertices ring) o) (edge-sized px py _ _ _ _ hx hy (b .xs 0 z) (b .ys 0 z) (b .xs 1 o) (b .ys 1 o))
 
-number-of : {x : Float} {k : ℕ} → Sized x k → Number x
-number-of {x} s = go x (s .num .fine)
+pub sized-number : {x : Float} {k : ℕ} → Sized x k → Number x
+sized-number {x} s = go x (s .num .fine)
   where
     go : (x : Float) → T (finite x) → Number x
     go nan h = absurd h
@@ -159,7 +159,7 @@ module _ (px py : Float) (ring : Ring) (holes : List Ring) (hx : Sized px 15360)
       let g = rings-good px py ∞ (ring ∷ holes) ∞-good in
       ranged (g .square .fit) (wider (omega arith) zero-sized) s (rw origin-is (at-least-zero _ g))
       (le-trans (foldl (leastOfRing px py) (leastOfRing px py ∞ ring) holes) (leastOfRing px py ∞ ring) (squareAt px py ring (vertices ring) 0)
-      (rings-falls px py (leastOfRing px py ∞ ring) holes (ring-good px py ∞ ring ∞-good)) (ring-under px py ring (b .two) (number-of s)))
+      (rings-falls px py (leastOfRing px py ∞ ring) holes (ring-good px py ∞ ring ∞-good)) (ring-under px py ring (b .two) (sized-number s)))
 
   dist-sized : Sized (minDistToRings px py (ring ∷ holes)) 26067
   unfolding leastOfRings
