@@ -7,4 +7,6 @@ pub mod Deepest
 pub mod Match
 pub mod Turns
 pub mod Search
+pub mod Fuel
+pub mod Halvings
 pub mod Plant

@@ -339,7 +339,7 @@ pub fn deepest_point(sizes: &[usize], coords: &[f64], precision: f64, cells: &mu
 }
 
 // The deeper of two: the first unless the second is strictly deeper. Where one search found no room, there is none.
-fn deeper(a: Deepest, b: Deepest) -> Deepest
+pub fn deeper(a: Deepest, b: Deepest) -> Deepest
     ensures { λ r. ⌜ r ≡ deeperOf a b ⌝ }
 {
     match a {

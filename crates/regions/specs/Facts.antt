@@ -55,7 +55,7 @@ zero-self : T (0ᶠ ≤ᶠ 0ᶠ)
 unfolding le ofBits
 zero-self = tt
 
-zero-number : Number 0ᶠ
+pub zero-number : Number 0ᶠ
 unfolding isNan ofBits
 zero-number = tt
 

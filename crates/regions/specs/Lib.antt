@@ -7,3 +7,4 @@ pub mod Least
 pub mod Margin
 pub mod Early
 pub mod Facts
+pub mod Sizes
