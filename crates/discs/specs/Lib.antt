@@ -1,9 +1,0 @@
-pub mod Context
-pub mod Escape
-pub mod Lattice
-pub mod Uniform
-pub mod LowDiscrepancy
-pub mod Random
-pub mod Region
-pub mod Radius
-pub mod PlaceGlyphs

@@ -1,3 +1,0 @@
-// discs.rs: the disc packer.
-pub mod context;
-pub mod options;
