@@ -1,2 +1,4 @@
 pub mod Field
+pub mod Moves
+pub mod Others
 pub mod Scatter
