@@ -11,9 +11,9 @@ use Rattle.float.specs.Ops.{_+ᶠ_, _*ᶠ_, _/ᶠ_, _≤ᶠ_, _>ᶠ_, 0ᶠ, 1�
 use Rattle.float.specs.Order.{hypot, min}
 use Rattle.glyphs.specs.declared.rect.Point.{Point}
 use Rattle.glyphs.specs.declared.rect.Rectangle.{Rectangle}
-use Rattle.glyphs.specs.Rect.{isFinite}
+use Rattle.glyphs.specs.Rect.{rectangles, isFinite}
 use Rattle.glyphs.specs.Spots.{spotsOf}
-use Rattle.regions.specs.Ring.{Piece}
+use Rattle.regions.specs.Ring.{Piece, pieceOf}
 use Rattle.relax.specs.Field.{at, forceOn, accepts}
 use Rattle.relax.specs.Scatter.{Scatter, Surroundings, moved, settle, stepped, tryStep, relaxPoint}
 use Rattle.relax.specs.declared.Spreading.{Spreading}
@@ -28,9 +28,17 @@ use Rattle.relax.specs.declared.moves.Move.the-variants.{To, Stay}
 abbrev pub scatterOf : List Float → List Float → Scatter
 scatterOf spots clearances = record { points = spotsOf spots; clearance = clearances }
 
--- the flags that a list of floats holds
+-- a flag as a float, and the flags that a list of floats holds
+unfoldable pub flagOf : Bool → Float
+flagOf b = cond b 1ᶠ 0ᶠ
+
 unfoldable pub flagsOf : List Float → List Bool
 flagsOf flags = map (λ (h : Float). h >ᶠ 0ᶠ) flags
+
+-- what every sweep reads, from the slices that hold it
+abbrev pub surroundings : Field → List Float → List Float → List ℕ → List Float → Surroundings
+surroundings field honoring obstacles sizes coords =
+    record { field = field; piece = pieceOf sizes coords; obstacles = rectangles obstacles; honoring = flagsOf honoring }
 
 unfoldable pub orElse : Point → Acceptance → Move → Move
 orElse candidate (Clear c) otherwise = To (candidate .x) (candidate .y) c

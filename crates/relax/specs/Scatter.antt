@@ -62,12 +62,18 @@ relaxPoint numbers e maxStep s i =
     cond (not (isFinite magnitude) || magnitude ≤ᶠ 0ᶠ) s
     (tryStep e i p (f .x /ᶠ magnitude) (f .y /ᶠ magnitude) (suc (numbers .backtracks)) (maxStep *ᶠ min magnitude 1ᶠ) s)
 
--- one sweep, cooler than the one before
+-- the greatest step of a sweep, less from each to the next
+unfoldable pub maxStepOf : Spreading → Float → ℕ → Float
+maxStepOf numbers spacing sweep =
+    let cooling = 1ᶠ -ᶠ as-f64 sweep /ᶠ as-f64 (numbers .sweeps) in
+    numbers .«max_step» *ᶠ spacing *ᶠ cooling
+
 unfoldable pub relaxSweep : Spreading → Surroundings → Scatter → ℕ → Scatter
 relaxSweep numbers e s sweep =
-    let cooling = 1ᶠ -ᶠ as-f64 sweep /ᶠ as-f64 (numbers .sweeps) in
-    let maxStep = numbers .«max_step» *ᶠ e .field .spacing *ᶠ cooling in
-    foldl (relaxPoint numbers e maxStep) s (upTo (length (s .points)))
+    foldl (relaxPoint numbers e (maxStepOf numbers (e .field .spacing) sweep)) s (upTo (length (s .points)))
+
+unfoldable pub relaxSweeps : Spreading → Surroundings → Scatter → Scatter
+relaxSweeps numbers e s = foldl (relaxSweep numbers e) s (upTo (numbers .sweeps))
 
 -- signed_clearance and clear_of_obstacles of each mark
 unfoldable pub clearancesOf : Piece → List Point → List Float
@@ -80,13 +86,12 @@ honoringOf obstacles inset points = map (λ (p : Point). clearOfObstacles (p .x)
 unfoldable pub idle : ℕ → Float → Bool
 idle count spacing = eqb count 0 || (not (isFinite spacing) || spacing ≤ᶠ 0ᶠ)
 
+abbrev pub around : Spreading → List Point → Piece → List Rectangle → Float → Float → Surroundings
+around numbers points piece obstacles spacing inset =
+    record { field = fieldOf numbers spacing inset; piece = piece; obstacles = obstacles; honoring = honoringOf obstacles inset points }
+
 unfoldable pub relaxScatter : Spreading → List Point → Piece → List Rectangle → Float → Float → List Point
 relaxScatter numbers points piece obstacles spacing inset =
-    let e : Surroundings = record {
-      field = fieldOf numbers spacing inset;
-      piece = piece;
-      obstacles = obstacles;
-      honoring = honoringOf obstacles inset points;
-    } in
     cond (idle (length points) spacing) points
-    (foldl (relaxSweep numbers e) (record { points = points; clearance = clearancesOf piece points }) (upTo (numbers .sweeps)) .points)
+    (relaxSweeps numbers (around numbers points piece obstacles spacing inset) (record { points = points; clearance = clearancesOf piece points })
+    .points)

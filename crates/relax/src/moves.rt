@@ -6,7 +6,7 @@ ghost use Rattle.glyphs.specs.Rect.{rectangles};
 ghost use Rattle.glyphs.specs.Spots.{spotsOf};
 ghost use Rattle.regions.specs.Ring.{sum, pieceOf};
 ghost use Rattle.relax.specs.Scatter.{relaxPoint};
-ghost use Rattle.relax.specs.Moves.{scatterOf, flagsOf, firstAccepted, pushedTo, settled};
+ghost use Rattle.relax.specs.Moves.{scatterOf, surroundings, firstAccepted, pushedTo, settled};
 use crate::Spreading;
 use crate::field::Acceptance;
 use crate::field::Field;
@@ -121,7 +121,7 @@ pub fn relax_point(
     coords: &[f64],
 )
     requires { ⌜ (i < length (now clearances)) × (length (now spots) ≡ length (now clearances) * 2) × (length (now honoring) ≡ length (now clearances)) × (0 < length (now sizes)) × (sum (now sizes) * 2 ≤ length (now coords)) ⌝ }
-    ensures { λ _. ⌜ scatterOf (now (spots .exit)) (now (clearances .exit)) ≡ relaxPoint numbers (record { field = field; piece = pieceOf (now (sizes .entry)) (now (coords .entry)); obstacles = rectangles (now (obstacles .entry)); honoring = flagsOf (now (honoring .entry)) }) «max_step» (scatterOf (now (spots .entry)) (now (clearances .entry))) i ⌝ }
+    ensures { λ _. ⌜ scatterOf (now (spots .exit)) (now (clearances .exit)) ≡ relaxPoint numbers (surroundings field (now (honoring .entry)) (now (obstacles .entry)) (now (sizes .entry)) (now (coords .entry))) «max_step» (scatterOf (now (spots .entry)) (now (clearances .entry))) i ⌝ }
 {
     let f = field.force_on(i, &spots[..], clearances[i], sizes, coords);
     let m = pushed_to(
