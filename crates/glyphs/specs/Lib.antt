@@ -5,4 +5,5 @@ pub mod Hash
 pub mod Points
 pub mod Quotas
 pub mod Rect
+pub mod Spots
 pub mod Stream

@@ -8,4 +8,5 @@ pub mod options;
 pub mod points;
 pub mod quotas;
 pub mod rect;
+pub mod spots;
 pub mod stream;

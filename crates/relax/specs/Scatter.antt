@@ -14,11 +14,11 @@ use Rattle.glyphs.specs.declared.rect.Rectangle.{Rectangle}
 use Rattle.glyphs.specs.Rect.{clearOfObstacles, isFinite}
 use Rattle.regions.specs.Ring.{Piece}
 use Rattle.regions.specs.Clearance.{signedClearance}
-use Rattle.relax.specs.Field.{Field, fieldOf, at, forceOn, accepts}
+use Rattle.relax.specs.Field.{fieldOf, at, forceOn, accepts}
 use Rattle.relax.specs.declared.Spreading.{Spreading}
-use Rattle.relax.specs.declared.Force.{Force}
-use Rattle.relax.specs.declared.Acceptance.{Acceptance}
-use Rattle.relax.specs.declared.Acceptance.the-variants.{Clear, Refused}
+use Rattle.relax.specs.declared.field.Field.{Field}
+use Rattle.relax.specs.declared.field.Acceptance.{Acceptance}
+use Rattle.relax.specs.declared.field.Acceptance.the-variants.{Clear, Refused}
 
 -- the marks, and the clearance of each
 pub record Scatter : Type 0 where
@@ -30,37 +30,68 @@ abbrev pub moved : Scatter → ℕ → Point → Float → Scatter
 moved s i candidate c = record { points = set (s .points) i candidate; clearance = set (s .clearance) i c }
 
 -- what becomes of a candidate: the mark moves there, or what else is tried
-abbrev pub settle : Scatter → ℕ → Point → Acceptance → Scatter → Scatter
+unfoldable pub settle : Scatter → ℕ → Point → Acceptance → Scatter → Scatter
 settle s i candidate (Clear c) otherwise = moved s i candidate c
 settle s i candidate Refused otherwise = otherwise
 
+-- p, moved by a step in the direction (ux, uy)
+abbrev pub stepped : Point → Float → Float → Float → Point
+stepped p ux uy step = record { x = p .x +ᶠ ux *ᶠ step; y = p .y +ᶠ uy *ᶠ step }
+
+-- What every sweep reads and none changes.
+pub record Surroundings : Type 0 where
+  pub field : Field
+  pub piece : Piece
+  pub obstacles : List Rectangle
+  pub honoring : List Bool
+
 -- for _ in 0..=BACKTRACKS: the step, halved where it is refused, with `tries` left
-unfoldable pub tryStep : Field → ℕ → Bool → Point → Float → Float → ℕ → Float → Scatter → Scatter
-tryStep field i honoring p ux uy zero step s = s
-tryStep field i honoring p ux uy (suc tries) step s =
-    let candidate : Point = record { x = p .x +ᶠ ux *ᶠ step; y = p .y +ᶠ uy *ᶠ step } in
-    settle s i candidate (accepts field candidate i (s .points) honoring) (tryStep field i honoring p ux uy tries (step *ᶠ ½ᶠ) s)
+unfoldable pub tryStep : Surroundings → ℕ → Point → Float → Float → ℕ → Float → Scatter → Scatter
+tryStep e i p ux uy zero step s = s
+tryStep e i p ux uy (suc tries) step s =
+    let candidate = stepped p ux uy step in
+    settle s i candidate (accepts (e .field) (e .piece) (e .obstacles) candidate i (s .points) (getD (e .honoring) i false))
+    (tryStep e i p ux uy tries (step *ᶠ ½ᶠ) s)
 
 -- one mark of a sweep
-unfoldable pub relaxPoint : Spreading → Field → List Bool → Float → Scatter → ℕ → Scatter
-relaxPoint numbers field honoring maxStep s i =
+unfoldable pub relaxPoint : Spreading → Surroundings → Float → Scatter → ℕ → Scatter
+relaxPoint numbers e maxStep s i =
     let p = at (s .points) i in
-    let f = forceOn field i (s .points) (getD (s .clearance) i nan) in
+    let f = forceOn (e .field) (e .piece) i (s .points) (getD (s .clearance) i nan) in
     let magnitude = hypot (f .x) (f .y) in
     cond (not (isFinite magnitude) || magnitude ≤ᶠ 0ᶠ) s
-    (tryStep field i (getD honoring i false) p (f .x /ᶠ magnitude) (f .y /ᶠ magnitude) (suc (numbers .backtracks)) (maxStep *ᶠ min magnitude 1ᶠ) s)
+    (tryStep e i p (f .x /ᶠ magnitude) (f .y /ᶠ magnitude) (suc (numbers .backtracks)) (maxStep *ᶠ min magnitude 1ᶠ) s)
 
--- one sweep, cooler than the one before
-unfoldable pub relaxSweep : Spreading → Field → List Bool → Scatter → ℕ → Scatter
-relaxSweep numbers field honoring s sweep =
+-- the greatest step of a sweep, less from each to the next
+unfoldable pub maxStepOf : Spreading → Float → ℕ → Float
+maxStepOf numbers spacing sweep =
     let cooling = 1ᶠ -ᶠ as-f64 sweep /ᶠ as-f64 (numbers .sweeps) in
-    let maxStep = numbers .«max_step» *ᶠ field .spacing *ᶠ cooling in
-    foldl (relaxPoint numbers field honoring maxStep) s (upTo (length (s .points)))
+    numbers .«max_step» *ᶠ spacing *ᶠ cooling
+
+unfoldable pub relaxSweep : Spreading → Surroundings → Scatter → ℕ → Scatter
+relaxSweep numbers e s sweep =
+    foldl (relaxPoint numbers e (maxStepOf numbers (e .field .spacing) sweep)) s (upTo (length (s .points)))
+
+unfoldable pub relaxSweeps : Spreading → Surroundings → Scatter → Scatter
+relaxSweeps numbers e s = foldl (relaxSweep numbers e) s (upTo (numbers .sweeps))
+
+-- signed_clearance and clear_of_obstacles of each mark
+unfoldable pub clearancesOf : Piece → List Point → List Float
+clearancesOf piece points = map (λ (p : Point). signedClearance (p .x) (p .y) piece) points
+
+unfoldable pub honoringOf : List Rectangle → Float → List Point → List Bool
+honoringOf obstacles inset points = map (λ (p : Point). clearOfObstacles (p .x) (p .y) obstacles inset) points
+
+-- points.is_empty() || !spacing.is_finite() || spacing <= 0.0
+unfoldable pub idle : ℕ → Float → Bool
+idle count spacing = eqb count 0 || (not (isFinite spacing) || spacing ≤ᶠ 0ᶠ)
+
+abbrev pub around : Spreading → List Point → Piece → List Rectangle → Float → Float → Surroundings
+around numbers points piece obstacles spacing inset =
+    record { field = fieldOf numbers spacing inset; piece = piece; obstacles = obstacles; honoring = honoringOf obstacles inset points }
 
 unfoldable pub relaxScatter : Spreading → List Point → Piece → List Rectangle → Float → Float → List Point
 relaxScatter numbers points piece obstacles spacing inset =
-    let field = fieldOf numbers piece obstacles spacing inset in
-    let honoring = map (λ (p : Point). clearOfObstacles (p .x) (p .y) obstacles inset) points in
-    let clearance = map (λ (p : Point). signedClearance (p .x) (p .y) piece) points in
-    cond (eqb (length points) 0 || not (isFinite spacing) || spacing ≤ᶠ 0ᶠ) points
-    (foldl (relaxSweep numbers field honoring) (record { points = points; clearance = clearance }) (upTo (numbers .sweeps)) .points)
+    cond (idle (length points) spacing) points
+    (relaxSweeps numbers (around numbers points piece obstacles spacing inset) (record { points = points; clearance = clearancesOf piece points })
+    .points)

@@ -1,14 +1,18 @@
 // relax.rs: a scatter of marks evened out.
+pub mod field;
+pub mod moves;
+pub mod push;
+pub mod scatter;
 
 // The numbers of relax.rs: sweeps; the reach of a neighbour's push, in spacings; the reach of the boundary's push,
 // in insets, and its weight; the greatest step, in spacings; how often a refused step is halved.
 pub struct Spreading {
-    pub sweeps: usize,
+    pub sweeps: u32,
     pub influence: f64,
     pub boundary_influence: f64,
     pub boundary_weight: f64,
     pub max_step: f64,
-    pub backtracks: usize,
+    pub backtracks: u32,
 }
 
 impl Spreading {
@@ -21,22 +25,4 @@ impl Spreading {
         max_step: 0.35,
         backtracks: 2,
     };
-}
-
-// The direction in which the clearance rises most, or that it is flat.
-pub enum Gradient {
-    Toward(f64, f64),
-    Flat,
-}
-
-// The clearance of a place that a mark may move to, or that it may not.
-pub enum Acceptance {
-    Clear(f64),
-    Refused,
-}
-
-// A push on a mark.
-pub struct Force {
-    pub x: f64,
-    pub y: f64,
 }
