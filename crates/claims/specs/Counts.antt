@@ -16,9 +16,8 @@ use Rattle.laws.specs.Sort.{place, insert, sortBy}
 use Rattle.laws.specs.Lists.{upTo}
 use Rattle.float.specs.Ops.{_+ᶠ_, _*ᶠ_, _/ᶠ_, _≤ᶠ_, 0ᶠ, 1ᶠ, ½ᶠ}
 use Rattle.float.specs.Order.{hypot, min}
-use Rattle.glyphs.specs.Rect.{clearOfObstacles, isFinite}
-use Rattle.regions.specs.Clearance.{signedClearance}
-use Rattle.relax.specs.declared.Force.{Force}
+use Rattle.glyphs.specs.Rect.{isFinite}
+use Rattle.relax.specs.declared.push.Force.{Force}
 use Rattle.glyphs.specs.declared.rect.Point.{Point}
 use Rattle.glyphs.specs.declared.rect.Rectangle.{Rectangle}
 use Rattle.glyphs.specs.declared.stream.Stream.{Stream}
@@ -29,10 +28,10 @@ use Rattle.lattice.specs.Lattice.{HexCells, byAnchor, sortByAnchor, takeCells}
 use Rattle.scatter.specs.LowDiscrepancy.{Anchor, budget, candidate, admits, pass, passes}
 use Rattle.scatter.specs.Random.{Thrown, Dart, hit, miss, afterDart, throw, glyphs, throws}
 use Rattle.relax.specs.declared.Spreading.{Spreading}
-use Rattle.relax.specs.declared.Acceptance.{Acceptance}
-use Rattle.relax.specs.declared.Acceptance.the-variants.{Clear, Refused}
-use Rattle.relax.specs.Field.{Field, at, forceOn, accepts, fieldOf}
-use Rattle.relax.specs.Scatter.{Scatter, settle, tryStep, relaxPoint, relaxSweep, relaxScatter}
+use Rattle.relax.specs.declared.field.Acceptance.{Acceptance}
+use Rattle.relax.specs.declared.field.Acceptance.the-variants.{Clear, Refused}
+use Rattle.relax.specs.Field.{at, forceOn, accepts}
+use Rattle.relax.specs.Scatter.{Scatter, Surroundings, around, settle, stepped, tryStep, relaxPoint, maxStepOf, relaxSweep, relaxSweeps, clearancesOf, idle, relaxScatter}
 
 -- ---- sorting
 length-place : {A : Type 0} (cmp : A → A → Ordering) (o : Ordering) (x y : A) (ys into : List A) → length into ≡ suc (length ys) → length (place cmp o x y ys into) ≡ suc (suc (length ys))
@@ -128,52 +127,52 @@ module _ (piece : Piece) (n attempts : ℕ) (ctx : PackCtx) (near : List Rectang
 
 -- ---- relaxation moves marks and places none
 settled-count : (s t : Scatter) (i : ℕ) (c : Point) (a : Acceptance) → length (t .points) ≡ length (s .points) → length (settle s i c a t .points) ≡ length (s .points)
+unfolding settle
 settled-count s t i c (Clear d) e = length-set (s .points) i c
 settled-count s t i c Refused e = e
 
-tried-count : (field : Field) (i : ℕ) (honoring : Bool) (p : Point) (ux uy : Float) (tries : ℕ) (step : Float) (s : Scatter) → length (tryStep field i honoring p ux uy tries step s .points) ≡ length (s .points)
+tried-count : (e : Surroundings) (i : ℕ) (p : Point) (ux uy : Float) (tries : ℕ) (step : Float) (s : Scatter) → length (tryStep e i p ux uy tries step s .points) ≡ length (s .points)
 unfolding tryStep
-tried-count field i honoring p ux uy zero step s = refl
-tried-count field i honoring p ux uy (suc tries) step s =
-    let c : Point = record { x = p .x +ᶠ ux *ᶠ step; y = p .y +ᶠ uy *ᶠ step } in
-    settled-count s (tryStep field i honoring p ux uy tries (step *ᶠ ½ᶠ) s) i c (accepts field c i (s .points) honoring)
-    (tried-count field i honoring p ux uy tries (step *ᶠ ½ᶠ) s)
+tried-count e i p ux uy zero step s = refl
+tried-count e i p ux uy (suc tries) step s =
+    let c = stepped p ux uy step in
+    settled-count s (tryStep e i p ux uy tries (step *ᶠ ½ᶠ) s) i c (accepts (e .field) (e .piece) (e .obstacles) c i (s .points) (getD (e .honoring) i false))
+    (tried-count e i p ux uy tries (step *ᶠ ½ᶠ) s)
 
 folded-count : {A : Type 0} (f : Scatter → A → Scatter) → ((s : Scatter) (a : A) → length (f s a .points) ≡ length (s .points)) → (s : Scatter) (xs : List A) → length (foldl f s xs .points) ≡ length (s .points)
 folded-count f h s [] = refl
 folded-count f h s (x ∷ xs) = folded-count f h (f s x) xs ∙ h s x
 
-point-count : (numbers : Spreading) (field : Field) (honoring : List Bool) (maxStep : Float) (s : Scatter) (i : ℕ) → length (relaxPoint numbers field honoring maxStep s i .points) ≡ length (s .points)
+point-count : (numbers : Spreading) (e : Surroundings) (maxStep : Float) (s : Scatter) (i : ℕ) → length (relaxPoint numbers e maxStep s i .points) ≡ length (s .points)
 unfolding relaxPoint
-point-count numbers field honoring maxStep s i = go (not (isFinite m) || m ≤ᶠ 0ᶠ)
+point-count numbers e maxStep s i = go (not (isFinite m) || m ≤ᶠ 0ᶠ)
   where
     f : Force
-    f = forceOn field i (s .points) (getD (s .clearance) i nan)
+    f = forceOn (e .field) (e .piece) i (s .points) (getD (s .clearance) i nan)
 
     m : Float
     m = hypot (f .x) (f .y)
 
-    go : (b : Bool) → length (cond b s (tryStep field i (getD honoring i false) (at (s .points) i) (f .x /ᶠ m) (f .y /ᶠ m) (suc (numbers .backtracks)) (maxStep *ᶠ min m 1ᶠ) s) .points) ≡ length (s .points)
+    go : (b : Bool) → length (cond b s (tryStep e i (at (s .points) i) (f .x /ᶠ m) (f .y /ᶠ m) (suc (numbers .backtracks)) (maxStep *ᶠ min m 1ᶠ) s) .points) ≡ length (s .points)
     go true = refl
-    go false = tried-count field i (getD honoring i false) (at (s .points) i) (f .x /ᶠ m) (f .y /ᶠ m) (suc (numbers .backtracks)) (maxStep *ᶠ min m 1ᶠ) s
+    go false = tried-count e i (at (s .points) i) (f .x /ᶠ m) (f .y /ᶠ m) (suc (numbers .backtracks)) (maxStep *ᶠ min m 1ᶠ) s
 
-sweep-count : (numbers : Spreading) (field : Field) (honoring : List Bool) (s : Scatter) (sweep : ℕ) → length (relaxSweep numbers field honoring s sweep .points) ≡ length (s .points)
+sweep-count : (numbers : Spreading) (e : Surroundings) (s : Scatter) (sweep : ℕ) → length (relaxSweep numbers e s sweep .points) ≡ length (s .points)
 unfolding relaxSweep
-sweep-count numbers field honoring s sweep = folded-count _ (point-count numbers field honoring _) s (upTo (length (s .points)))
+sweep-count numbers e s sweep =
+    let step = maxStepOf numbers (e .field .spacing) sweep in
+    folded-count (relaxPoint numbers e step) (point-count numbers e step) s (upTo (length (s .points)))
 
 pub relaxed-count : (numbers : Spreading) (points : List Point) (piece : Piece) (obstacles : List Rectangle) (spacing inset : Float) → length (relaxScatter numbers points piece obstacles spacing inset) ≡ length points
-unfolding relaxScatter
-relaxed-count numbers points piece obstacles spacing inset = go (eqb (length points) 0 || not (isFinite spacing) || spacing ≤ᶠ 0ᶠ)
+unfolding relaxScatter relaxSweeps
+relaxed-count numbers points piece obstacles spacing inset = go (idle (length points) spacing)
   where
-    field : Field
-    field = fieldOf numbers piece obstacles spacing inset
-
-    honoring : List Bool
-    honoring = map (λ (p : Point). clearOfObstacles (p .x) (p .y) obstacles inset) points
+    env : Surroundings
+    env = around numbers points piece obstacles spacing inset
 
     start : Scatter
-    start = record { points = points; clearance = map (λ (p : Point). signedClearance (p .x) (p .y) piece) points }
+    start = record { points = points; clearance = clearancesOf piece points }
 
-    go : (b : Bool) → length (cond b points (foldl (relaxSweep numbers field honoring) start (upTo (numbers .sweeps)) .points)) ≡ length points
+    go : (b : Bool) → length (cond b points (foldl (relaxSweep numbers env) start (upTo (numbers .sweeps)) .points)) ≡ length points
     go true = refl
-    go false = folded-count (relaxSweep numbers field honoring) (sweep-count numbers field honoring) start (upTo (numbers .sweeps))
+    go false = folded-count (relaxSweep numbers env) (sweep-count numbers env) start (upTo (numbers .sweeps))
