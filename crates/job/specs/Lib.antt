@@ -1,0 +1,4 @@
+pub mod Head
+pub mod Zones
+pub mod Job
+pub mod Sheet

@@ -1,0 +1,1 @@
+// The reader of a job, and the writer of a sheet.
