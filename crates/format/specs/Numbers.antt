@@ -5,7 +5,7 @@ use mathlib.Core.Bool.{Bool, true, _&&_, cond}
 use mathlib.Core.List.{List, [], _∷_, _++_}
 use lib.ListN.{length, getD}
 use lib.Dec.{ltb, leb}
-use lib.Ieee.{Float, neg}
+use lib.Ieee.{Float, binary64, neg, toBits, ofBits}
 use Rattle.float.specs.Ops.{_/ᶠ_, literal}
 use Rattle.float.specs.Whole.{as-f64}
 use Rattle.format.specs.Rows.{_unless_, _orElse_}
@@ -35,6 +35,14 @@ u64 s at = uint 8 s at
 unfoldable pub bytes : ℕ → ℕ → List ℕ
 bytes zero v = []
 bytes (suc n) v = bytes n (v / 256) ++ v % 256 ∷ []
+
+-- ---- a float as its 64 bits
+
+unfoldable pub floatAt : List ℕ → ℕ → Float
+floatAt s at = ofBits binary64 (u64 s at)
+
+unfoldable pub floatBytes : Float → List ℕ
+floatBytes x = bytes 8 (toBits binary64 x)
 
 -- ---- judged
 

@@ -38,3 +38,10 @@ pieceEnd s at = past (ringEnd s) (u8 s at) (at + 1)
 
 unfoldable pub piece : List ℕ → ℕ → Piece
 piece s at = each (ring s) (ringEnd s) (u8 s at) (at + 1)
+
+-- the coordinates of its rings, end to end, and the number of vertices of each
+unfoldable pub pieceCoords : List ℕ → ℕ → List Float
+pieceCoords s at = flat (ring s) (ringEnd s) (u8 s at) (at + 1)
+
+unfoldable pub ringSizes : List ℕ → ℕ → List ℕ
+ringSizes s at = each (u16 s) (ringEnd s) (u8 s at) (at + 1)

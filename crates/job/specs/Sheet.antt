@@ -2,9 +2,9 @@
 use Prim.Native.Nat.{ℕ, _+_, _*_, _/_}
 use mathlib.Core.List.{List, [], _∷_, _++_, map}
 use lib.ListN.{length, take, drop}
-use lib.Ieee.{Float, binary64, toBits, ofBits}
+use lib.Ieee.{Float}
 use Rattle.format.specs.Rows.{past, each}
-use Rattle.format.specs.Numbers.{u8, u16, u64, bytes}
+use Rattle.format.specs.Numbers.{u8, u16, bytes, floatAt, floatBytes}
 
 -- a zone left in: its key, its marks that are unplaced, and x and y of each spot in turn
 pub record Placement : Type 0 where
@@ -17,10 +17,6 @@ pub record Sheet : Type 0 where
   pub zones : List Placement
 
 -- ---- written
-
--- a float as its 64 bits
-unfoldable pub floatBytes : Float → List ℕ
-floatBytes x = bytes 8 (toBits binary64 x)
 
 unfoldable pub joined : {A B : Type 0} → (A → List B) → List A → List B
 joined f [] = []
@@ -48,9 +44,6 @@ unfoldable pub sheetOf : Sheet → List ℕ
 sheetOf sheet = bytes 4 (length (bodyBytes sheet)) ++ bodyBytes sheet
 
 -- ---- read
-
-unfoldable pub floatAt : List ℕ → ℕ → Float
-floatAt s at = ofBits binary64 (u64 s at)
 
 abbrev pub nextFloat : ℕ → ℕ
 nextFloat at = at + 8

@@ -1,0 +1,20 @@
+-- Laws of rings and pieces.
+-- Rests on the laws of rows and items.
+use Prim.Native.Nat.{ℕ, _+_, _≤_}
+use mathlib.Core.Path.{_≡_}
+use mathlib.Core.List.{List}
+use native.Mathlib.Omega.{arith}
+use lib.ListN.{length}
+use Rattle.format.specs.Numbers.{u8, u16}
+use Rattle.format.specs.Pieces.{ringEnd, pieceFault, ringSizes}
+use Rattle.format.specs.RowLaws.{both, length-each}
+use Rattle.format.specs.NumberLaws.{item-passed}
+
+pub length-sizes : (s : List ℕ) (at : ℕ) → length (ringSizes s at) ≡ u8 s at
+unfolding ringSizes
+length-sizes s at = length-each (ringEnd s) (u16 s) (u8 s at) (at + 1)
+
+-- a piece without fault has at most 9 rings
+pub few-rings : (s : List ℕ) (at : ℕ) → pieceFault s at ≡ 0 → length (ringSizes s at) ≤ 9
+unfolding pieceFault
+few-rings s at e = omega (arith, length-sizes s at, item-passed 1 s at 1 9 9 (omega arith) (both _ _ e .0) .to)
