@@ -1,12 +1,13 @@
 -- Laws of rings and pieces.
 -- Rests on the laws of rows and items.
-use Prim.Native.Nat.{ℕ, _+_, _≤_}
+use Prim.Native.Nat.{ℕ, zero, suc, _+_, _*_, _≤_}
 use mathlib.Core.Path.{_≡_}
 use mathlib.Core.List.{List}
 use native.Mathlib.Omega.{arith}
-use lib.ListN.{length}
+use lib.ListN.{length, length-append}
+use Rattle.format.specs.Rows.{faults, flat}
 use Rattle.format.specs.Numbers.{u8, u16}
-use Rattle.format.specs.Pieces.{ringEnd, pieceFault, ringSizes}
+use Rattle.format.specs.Pieces.{ringEnd, pieceFault, pieceEnd, ringSizes}
 use Rattle.format.specs.RowLaws.{both, length-each}
 use Rattle.format.specs.NumberLaws.{item-passed}
 
@@ -18,3 +19,10 @@ length-sizes s at = length-each (ringEnd s) (u16 s) (u8 s at) (at + 1)
 pub few-rings : (s : List ℕ) (at : ℕ) → pieceFault s at ≡ 0 → length (ringSizes s at) ≤ 9
 unfolding pieceFault
 few-rings s at e = omega (arith, length-sizes s at, item-passed 1 s at 1 9 9 (omega arith) (both _ _ e .0) .to)
+
+pub few-rings-each : (s : List ℕ) (n at : ℕ) → faults (pieceFault s) (pieceEnd s) n at ≡ 0 → length (flat (ringSizes s) (pieceEnd s) n at) ≤ 9 * n
+unfolding faults flat
+few-rings-each s zero at e = omega arith
+few-rings-each s (suc n) at e =
+    let p = both _ _ e in
+    simp length-append (omega (arith, few-rings s at (p .0), few-rings-each s n (pieceEnd s at) (p .1)))

@@ -25,6 +25,16 @@ unfolding _orElse_
 both zero y e = (refl, e)
 both (suc x) y e = absurd (omega arith)
 
+-- ---- runs of stores
+
+pub sets-append : {A : Type 0} (l : List A) (k : ℕ) (xs ys : List A) → sets l k (xs ++ ys) ≡ sets (sets l k xs) (k + length xs) ys
+sets-append l k [] ys =
+    let e : k + 0 ≡ k = omega arith in
+    rw e
+sets-append l k (x ∷ xs) ys =
+    let e : k + suc (length xs) ≡ suc k + length xs = omega arith in
+    rw e (sets-append (set l k x) (suc k) xs ys)
+
 -- ---- which row answers
 
 -- the fault that a call found
@@ -76,97 +86,90 @@ pub last-false : {r : ℕ} (b q : Bool) (number : ℕ) → q ≡ b → q ≡ fal
 unfolding _unless_
 last-false b q number f h e = rw (← f, h) e
 
-pub ruleset rows = (row-fault, row-clear, row-has, row-true, row-lacks, row-false, last-has, last-lacks, last-true, last-false, needs)
+pub last-same : {r : ℕ} (m n number : ℕ) → m ≡ n → r ≡ 0 → r ≡ number unless eqb m n
+unfolding _unless_
+last-same m n number h e = rw (eq-eqb m n h) e
 
--- ---- one turn of a loop that counts down, and its end
+pub last-other : {r : ℕ} (m n number : ℕ) → (m ≡ n → ⊥) → r ≡ number → r ≡ number unless eqb m n
+unfolding _unless_
+last-other m n number h e = rw (ne-eqb m n h) e
+
+pub ruleset rows = (row-fault, row-clear, row-has, row-true, row-lacks, row-false, last-has, last-lacks, last-true, last-false, last-same, last-other, needs)
+
+-- ---- a loop that counts down: what was known of the n things at `at` is known of the rest after one turn, and at the end
+-- The place that the code came to is `to`.
 
 less-one : (n : ℕ) → suc n - 1 ≡ n
 less-one n = omega arith
 
 module _ {S : Type 0} (next : S → S) where
   module _ (fault : S → ℕ) where
-    pub stop : (n : ℕ) (at : S) → 0 < n → (fault at ≡ 0 → ⊥) → faults fault next n at ≡ fault at
+    pub stop : {r : ℕ} (n : ℕ) (at : S) → 0 < n → (fault at ≡ 0 → ⊥) → r ≡ faults fault next n at → r ≡ fault at
     unfolding faults
-    stop zero at m h = absurd (omega arith)
-    stop (suc n) at m h = sym (row-fault (fault at) (fault at) _ refl h refl)
+    stop zero at m h e = absurd (omega arith)
+    stop (suc n) at m h e = e ∙ sym (row-fault (fault at) (fault at) _ refl h refl)
 
-    pub go-on : (n : ℕ) (at : S) → 0 < n → fault at ≡ 0 → faults fault next n at ≡ faults fault next (n - 1) (next at)
+    pub faults-turn : {r : ℕ} {to : S} (n : ℕ) (at : S) → 0 < n → fault at ≡ 0 → to ≡ next at → r ≡ faults fault next n at → r ≡ faults fault next (n - 1) to
     unfolding faults
-    go-on zero at m h = absurd (omega arith)
-    go-on (suc n) at m h = rw (less-one n) (sym (row-clear (fault at) (fault at) _ refl h refl))
+    faults-turn zero at m h t e = absurd (omega arith)
+    faults-turn (suc n) at m h t e = e ∙ rw (less-one n, t) (sym (row-clear (fault at) (fault at) _ refl h refl))
 
-    pub faults-none : (n : ℕ) (at : S) → n ≤ 0 → faults fault next n at ≡ 0
+    pub faults-end : {r : ℕ} (n : ℕ) (at : S) → n ≤ 0 → r ≡ faults fault next n at → r ≡ 0
     unfolding faults
-    faults-none zero at h = refl
-    faults-none (suc n) at h = absurd (omega arith)
+    faults-end zero at h e = e
+    faults-end (suc n) at h e = absurd (omega arith)
 
-  pub past-turn : (n : ℕ) (at : S) → 0 < n → past next n at ≡ past next (n - 1) (next at)
+  pub past-turn : {r to : S} (n : ℕ) (at : S) → 0 < n → to ≡ next at → r ≡ past next n at → r ≡ past next (n - 1) to
   unfolding past
-  past-turn zero at m = absurd (omega arith)
-  past-turn (suc n) at m = rw (less-one n)
+  past-turn zero at m t e = absurd (omega arith)
+  past-turn (suc n) at m t e = e ∙ rw (less-one n, t)
 
-  pub past-none : (n : ℕ) (at : S) → n ≤ 0 → past next n at ≡ at
+  pub past-end : {r : S} (n : ℕ) (at : S) → n ≤ 0 → r ≡ past next n at → at ≡ r
   unfolding past
-  past-none zero at h = refl
-  past-none (suc n) at h = absurd (omega arith)
+  past-end zero at h e = sym e
+  past-end (suc n) at h e = absurd (omega arith)
 
+  -- one store a turn
   module _ {A : Type 0} (view : S → A) where
-    pub each-turn : (n : ℕ) (at : S) → 0 < n → each view next n at ≡ view at ∷ each view next (n - 1) (next at)
-    unfolding each
-    each-turn zero at m = absurd (omega arith)
-    each-turn (suc n) at m = rw (less-one n)
-
-    pub each-none : (n : ℕ) (at : S) → n ≤ 0 → each view next n at ≡ []
-    unfolding each
-    each-none zero at h = refl
-    each-none (suc n) at h = absurd (omega arith)
-
     pub length-each : (n : ℕ) (at : S) → length (each view next n at) ≡ n
     unfolding each
     length-each zero at = refl
     length-each (suc n) at = rw (length-each n (next at))
 
-    -- a turn stores what is at hand, the rest is stored behind it
     pub store-turn :
-        (out : List A) (k n : ℕ) (at : S) → 0 < n
-        → sets out k (each view next n at) ≡ sets (set out k (view at)) (k + 1) (each view next (n - 1) (next at))
-    store-turn out k n at m = rw (each-turn n at m, add-one)
+        {x out' : List A} {k' : ℕ} {to : S} (out : List A) (k n : ℕ) (at : S) → 0 < n → to ≡ next at → k' ≡ k + 1 → out' ≡ set out k (view at)
+        → x ≡ sets out k (each view next n at) → x ≡ sets out' k' (each view next (n - 1) to)
+    unfolding each
+    store-turn out k zero at m t j o e = absurd (omega arith)
+    store-turn out k (suc n) at m t j o e = e ∙ rw (less-one n, t, j, o, add-one)
 
-    pub store-none : (out : List A) (k n : ℕ) (at : S) → n ≤ 0 → sets out k (each view next n at) ≡ out
-    store-none out k n at h = rw (each-none n at h)
+    pub store-end : {x : List A} (out : List A) (k n : ℕ) (at : S) → n ≤ 0 → x ≡ sets out k (each view next n at) → out ≡ x
+    unfolding each
+    store-end out k zero at h e = sym e
+    store-end out k (suc n) at h e = absurd (omega arith)
 
+  -- some stores a turn
   module _ {A : Type 0} (view : S → List A) where
-    pub flat-turn : (n : ℕ) (at : S) → 0 < n → flat view next n at ≡ view at ++ flat view next (n - 1) (next at)
+    pub length-turn :
+        {r k' : ℕ} {to : S} (k n : ℕ) (at : S) → 0 < n → to ≡ next at → k' ≡ k + length (view at)
+        → r ≡ k + length (flat view next n at) → r ≡ k' + length (flat view next (n - 1) to)
     unfolding flat
-    flat-turn zero at m = absurd (omega arith)
-    flat-turn (suc n) at m = rw (less-one n)
+    length-turn k zero at m t j e = absurd (omega arith)
+    length-turn k (suc n) at m t j e = rw (less-one n, t) (omega (arith, length-append (view at) (flat view next n (next at))))
 
-    pub flat-none : (n : ℕ) (at : S) → n ≤ 0 → flat view next n at ≡ []
+    pub length-end : {r : ℕ} (k n : ℕ) (at : S) → n ≤ 0 → r ≡ k + length (flat view next n at) → k ≡ r
     unfolding flat
-    flat-none zero at h = refl
-    flat-none (suc n) at h = absurd (omega arith)
+    length-end k zero at h e = omega arith
+    length-end k (suc n) at h e = absurd (omega arith)
 
-    pub length-none : (n : ℕ) (at : S) → n ≤ 0 → length (flat view next n at) ≡ 0
-    length-none n at h = rw (flat-none n at h)
+    pub put-turn :
+        {x out' : List A} {k' : ℕ} {to : S} (out : List A) (k n : ℕ) (at : S) → 0 < n → to ≡ next at → k' ≡ k + length (view at) → out' ≡ sets out k (view at)
+        → x ≡ sets out k (flat view next n at) → x ≡ sets out' k' (flat view next (n - 1) to)
+    unfolding flat
+    put-turn out k zero at m t j o e = absurd (omega arith)
+    put-turn out k (suc n) at m t j o e = e ∙ rw (less-one n, t, j, o) (sets-append out k (view at) (flat view next n (next at)))
 
-    pub length-turn : (n : ℕ) (at : S) → 0 < n → length (flat view next n at) ≡ length (view at) + length (flat view next (n - 1) (next at))
-    length-turn n at m = rw (flat-turn n at m) (length-append (view at) (flat view next (n - 1) (next at)))
-
--- ---- runs of stores
-
-pub sets-append : {A : Type 0} (l : List A) (k : ℕ) (xs ys : List A) → sets l k (xs ++ ys) ≡ sets (sets l k xs) (k + length xs) ys
-sets-append l k [] ys =
-    let e : k + 0 ≡ k = omega arith in
-    rw e
-sets-append l k (x ∷ xs) ys =
-    let e : k + suc (length xs) ≡ suc k + length xs = omega arith in
-    rw e (sets-append (set l k x) (suc k) xs ys)
-
-module _ {S A : Type 0} (next : S → S) (view : S → List A) where
-  pub put-turn :
-      (out : List A) (k n : ℕ) (at : S) → 0 < n
-      → sets out k (flat view next n at) ≡ sets (sets out k (view at)) (k + length (view at)) (flat view next (n - 1) (next at))
-  put-turn out k n at m = rw (flat-turn next view n at m) (sets-append out k (view at) (flat view next (n - 1) (next at)))
-
-  pub put-none : (out : List A) (k n : ℕ) (at : S) → n ≤ 0 → sets out k (flat view next n at) ≡ out
-  put-none out k n at h = rw (flat-none next view n at h)
+    pub put-end : {x : List A} (out : List A) (k n : ℕ) (at : S) → n ≤ 0 → x ≡ sets out k (flat view next n at) → out ≡ x
+    unfolding flat
+    put-end out k zero at h e = sym e
+    put-end out k (suc n) at h e = absurd (omega arith)

@@ -63,26 +63,36 @@ lentFault s =
     orElse 1 unless leb (length s) 65536
     orElse 1 unless eqb (u32 s 0) (length s - 4)
 
--- ---- rows 3, 4 and 5
+-- ---- row 2, the work slices, by their lengths
+
+unfoldable pub workFault : ℕ → ℕ → ℕ
+workFault first second = 2 unless leb 8000 first orElse 2 unless leb 8000 second
+
+-- ---- rows 3, 4 and 5: version, arrangement, policy, radius, gap, boundary gap, precision, attempts, seed
 
 -- the number after a kind: 0 after kind 0 (5), else 0..most (4)
 unfoldable pub numberAfter : ℕ → List ℕ → ℕ → ℕ → ℕ
 numberAfter zero s at most = u32In s at 0 0 5
 numberAfter (suc kind) s at most = u32In s at 0 most 4
 
-unfoldable pub headFault : List ℕ → ℕ
-headFault s =
-    u8In s versionAt 1 1 3
-    orElse u8In s arrangementAt 0 3 4
+unfoldable pub choicesFault : List ℕ → ℕ
+choicesFault s =
+    u8In s arrangementAt 0 3 4
     orElse u8In s policyAt 0 1 4
     orElse u8In s radiusKindAt 0 1 4
     orElse numberAfter (u8 s radiusKindAt) s radiusAt 1048576
-    orElse u32In s gapAt 0 16384 4
+
+unfoldable pub measuresFault : List ℕ → ℕ
+measuresFault s =
+    u32In s gapAt 0 16384 4
     orElse u8In s boundaryKindAt 0 1 4
     orElse numberAfter (u8 s boundaryKindAt) s boundaryGapAt 16384
     orElse u32In s precisionAt 1 1048576 4
     orElse u32In s attemptsAt 0 2000 4
     orElse 6 unless whole s seedAt 8
+
+unfoldable pub headFault : List ℕ → ℕ
+headFault s = u8In s versionAt 1 1 3 orElse choicesFault s orElse measuresFault s
 
 -- ---- the options
 

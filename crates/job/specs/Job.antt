@@ -49,11 +49,6 @@ pub record Job : Type 0 where
 unfoldable pub jobOf : List ℕ → Job
 jobOf s = record { options = optionsOf s; obstacles = obstacles s; zones = zones s }
 
--- ---- row 2, the work slices, by their lengths
-
-unfoldable pub workFault : ℕ → ℕ → ℕ
-workFault first second = 2 unless leb 8000 first orElse 2 unless leb 8000 second
-
 -- ---- row 14, the sheet buffer, by its length
 
 unfoldable pub isLeftIn : Zone → Bool

@@ -1,12 +1,14 @@
 -- The job's zones: what is refused, what stands there, and where it ends. Definitions only.
-use Prim.Native.Nat.{ℕ, _+_}
+use Prim.Native.Nat.{ℕ, _+_, _*_}
 use mathlib.Core.Bool.{Bool, true, false, cond, _||_, _&&_}
 use mathlib.Core.List.{List, [], _∷_}
-use lib.ListN.{take, drop}
+use lib.ListN.{getD, take, drop}
 use lib.Dec.{ltb, leb}
-use Rattle.format.specs.Rows.{_unless_, _orElse_, faults, past, each}
+use lib.Ieee.{Float}
+use Rattle.format.specs.Rows.{_unless_, _orElse_, faults, past, each, flat}
 use Rattle.format.specs.Numbers.{u8, u16, u8In, u16In, whole, within}
-use Rattle.format.specs.Pieces.{Piece, piece, pieceFault, pieceEnd}
+use Rattle.format.specs.Pieces.{Piece, piece, pieceFault, pieceEnd, pieceCoords, ringSizes}
+use Rattle.job.specs.declared.zones.Row.{Row}
 
 -- ---- a key: key length u8 1..32, key bytes A-Z, a-z, 0-9; above the last key in byte order
 
@@ -77,11 +79,40 @@ pub record Place : Type 0 where
   pub last : List ℕ
   pub marks : ℕ
 
+-- its key and its counts
+unfoldable pub openingFault : List ℕ → Place → ℕ
+openingFault s z = keyFault s (z .at) (z .last) orElse countsFault s (countAt s (z .at)) (z .marks)
+
 unfoldable pub zoneFault : List ℕ → Place → ℕ
 zoneFault s z =
-    keyFault s (z .at) (z .last)
-    orElse countsFault s (countAt s (z .at)) (z .marks)
+    openingFault s z
     orElse faults (pieceFault s) (pieceEnd s) (piecesAt s (z .at)) (countAt s (z .at) + 3)
 
 unfoldable pub zoneNext : List ℕ → Place → Place
 zoneNext s z = record { at = zoneEnd s (z .at); last = keyAt s (z .at); marks = z .marks + marksAt s (z .at) }
+
+-- ---- what the reader puts into flat slices of a zone
+
+-- the coordinates of its pieces, end to end, the number of vertices of each ring, the number of rings of each piece
+unfoldable pub zoneCoords : List ℕ → ℕ → List Float
+zoneCoords s at = flat (pieceCoords s) (pieceEnd s) (piecesAt s at) (countAt s at + 3)
+
+unfoldable pub zoneSizes : List ℕ → ℕ → List ℕ
+zoneSizes s at = flat (ringSizes s) (pieceEnd s) (piecesAt s at) (countAt s at + 3)
+
+unfoldable pub zoneRings : List ℕ → ℕ → List ℕ
+zoneRings s at = each (u8 s) (pieceEnd s) (piecesAt s at) (countAt s at + 3)
+
+-- where its key starts, how long that is, its mark count, its piece count
+unfoldable pub rowAt : List ℕ → ℕ → Row
+rowAt s at = record { key = at + 1; len = u8 s at; count = marksAt s at; pieces = piecesAt s at }
+
+abbrev pub numbersOf : Row → List ℕ
+numbersOf row = row .key ∷ row .len ∷ row .count ∷ row .pieces ∷ []
+
+unfoldable pub zoneRow : List ℕ → ℕ → List ℕ
+zoneRow s at = numbersOf (rowAt s at)
+
+-- row z of a list of rows
+unfoldable pub rowOf : List ℕ → ℕ → Row
+rowOf l z = record { key = getD l (z * 4) 0; len = getD l (z * 4 + 1) 0; count = getD l (z * 4 + 2) 0; pieces = getD l (z * 4 + 3) 0 }

@@ -1,1 +1,4 @@
-// The reader of a job, and the writer of a sheet.
+// The reader of a job.
+pub mod head;
+pub mod keys;
+pub mod zones;

@@ -1,13 +1,13 @@
 -- `coords` reads a run of coordinates. Invariant: what is left of the run is at the place come to, and is still to be put.
 -- Rests on one turn of a run, and on a coordinate without fault being whole.
-use mathlib.Core.Path.{_≡_}
+use mathlib.Core.Path.{_≡_, refl, sym, _∙_}
 use Prim.Native.Nat.{_+_, _-_, _*_, _/_, _≤_, min}
 use native.Mathlib.Omega.{arith}
 use lib.ListN.{length, length-set}
 use lib.Seq.{sets}
 use Rattle.format.specs.Rows.{faults, each}
 use Rattle.format.specs.Numbers.{coordIn, coordAt, nextCoord}
-use Rattle.format.specs.RowLaws.{stop, go-on, faults-none, store-turn, store-none}
+use Rattle.format.specs.RowLaws.{stop, faults-turn, faults-end, store-turn, store-end}
 use Rattle.format.specs.NumberLaws.{coord-inside, room-turn}
 use borrow.Author.Needs.{needs}
 use Rattle.format.proofs.numbers.coords.Statement.{statement}
@@ -38,8 +38,9 @@ returns : tie.Need-returns Inv-loop μ-loop
 returns c =
     let l = c .before .before .before .loop in
     let a = c .before .before .before .before .before .before .args in
+    let f = c .before .coord-in .ensures in
     record {
-      fault = cc (stop nextCoord (coordIn (a .s .now) (a .number)) (l .left) (l .at) (omega arith) (λ e. c .if1 .taken (cc)));
+      fault = f ∙ sym (stop nextCoord (coordIn (a .s .now) (a .number)) (l .left) (l .at) (omega arith) (λ e. c .if1 .taken (f ∙ e)) (l .inv .4));
       read = λ e. absurd (c .if1 .taken e);
     }
 
@@ -75,13 +76,14 @@ loop-again c =
     let l = c .before .before .before .before .loop in
     let a = c .before .before .before .before .before .before .before .args in
     let s = a .s .now in
-    let v = coord-inside s (a .number) (l .at) (cc) in (
+    let f : coordIn s (a .number) (l .at) ≡ 0 = sym (c .before .before .coord-in .ensures) ∙ c .before .if1 .left in
+    let v = coord-inside s (a .number) (l .at) f in (
       omega arith,
       omega arith,
       simp length-set (room-turn (l .k) (l .left) (l .at) (length s) (length (l .out)) (omega arith) v (l .inv .2) .1),
       search needs,
-      cc (go-on nextCoord (coordIn s (a .number)) (l .left) (l .at) (omega arith) (cc)),
-      cc (store-turn nextCoord (coordAt s) (l .out) (l .k) (l .left) (l .at) (omega arith)),
+      faults-turn nextCoord (coordIn s (a .number)) (l .left) (l .at) (omega arith) f refl (l .inv .4),
+      store-turn nextCoord (coordAt s) (l .out) (l .k) (l .left) (l .at) (omega arith) refl refl (rw (c .coord-at .ensures)) (l .inv .5),
     )
 
 same-length-2 : tie.Need-same-length-2 Inv-loop μ-loop
@@ -93,8 +95,8 @@ returns-2 c =
     let a = c .before .before .before .before .args in
     let s = a .s .now in
     record {
-      fault = cc (faults-none nextCoord (coordIn s (a .number)) (l .left) (l .at) (omega arith));
-      read = λ e. record { inside = omega arith; put = cc (store-none nextCoord (coordAt s) (l .out) (l .k) (l .left) (l .at) (omega arith)) };
+      fault = sym (faults-end nextCoord (coordIn s (a .number)) (l .left) (l .at) (omega arith) (l .inv .4));
+      read = λ e. record { inside = omega arith; put = store-end nextCoord (coordAt s) (l .out) (l .k) (l .left) (l .at) (omega arith) (l .inv .5) };
     }
 
 pub coords-spec : {M : Type 1} → statement M

@@ -1,7 +1,7 @@
 -- `pieces` reads pieces one after the other. Invariant: what is left of them is at the place come to, and is still to be put.
 -- Rests on what `piece` ensures and one turn of a run.
-use mathlib.Core.Path.{_≡_}
-use Prim.Native.Nat.{_+_, _-_, _*_, _≤_}
+use mathlib.Core.Path.{_≡_, sym, _∙_}
+use Prim.Native.Nat.{_+_, _-_, _*_, _<_, _≤_}
 use native.Mathlib.Omega.{arith}
 use lib.ListN.{length}
 use lib.Seq.{sets}
@@ -9,7 +9,7 @@ use Rattle.format.specs.Rows.{faults, past, each, flat}
 use Rattle.format.specs.Numbers.{u8}
 use Rattle.format.specs.Pieces.{pieceFault, pieceEnd, pieceCoords, ringSizes}
 use Rattle.format.specs.Steps.{Room}
-use Rattle.format.specs.RowLaws.{stop, go-on, faults-none, past-turn, past-none, store-turn, store-none, length-each, length-turn, length-none, put-turn, put-none}
+use Rattle.format.specs.RowLaws.{stop, faults-turn, faults-end, past-turn, past-end, store-turn, store-end, length-each, length-turn, length-end, put-turn, put-end}
 use Rattle.format.specs.PieceLaws.{few-rings}
 use borrow.Author.Needs.{needs}
 use Rattle.format.proofs.pieces.pieces.Statement.{statement}
@@ -53,8 +53,9 @@ returns : tie.Need-returns Inv-loop μ-loop
 returns c =
     let l = c .before .before .before .before .before .before .before .before .before .before .before .before .before .loop in
     let s = c .before .before .before .before .before .before .before .before .before .before .before .before .before .before .before .before .before .before .args .s .now in
+    let f = c .before .before .before .before .before .before .before .before .piece .ensures .fault in
     record {
-      fault = cc (stop (pieceEnd s) (pieceFault s) (l .left) (l .to .at) (omega arith) (λ e. c .if1 .taken (cc)));
+      fault = f ∙ sym (stop (pieceEnd s) (pieceFault s) (l .left) (l .to .at) (omega arith) (λ e. c .if1 .taken (f ∙ e)) (l .inv .6));
       read = λ e. absurd (c .if1 .taken e);
     }
 
@@ -69,21 +70,23 @@ loop-again c =
     let l = c .before .before .before .before .before .before .before .before .before .before .before .before .before .before .loop in
     let s = c .before .before .before .before .before .before .before .before .before .before .before .before .before .before .before .before .before .before .before .args .s .now in
     let at = l .to .at in
-    let f = few-rings s at (cc) in
-    let r = c .before .before .before .before .before .before .before .before .before .piece .ensures .read (c .before .if1 .left) in (
+    let f : pieceFault s at ≡ 0 = sym (c .before .before .before .before .before .before .before .before .before .piece .ensures .fault) ∙ c .before .if1 .left in
+    let w = few-rings s at f in
+    let r = c .before .before .before .before .before .before .before .before .before .piece .ensures .read (c .before .if1 .left) in
+    let m : 0 < l .left = omega arith in (
       record { inside = r .inside; behind = r .behind; enough = search needs },
       omega arith,
       omega arith,
       search needs,
       search needs,
       search needs,
-      cc (go-on (pieceEnd s) (pieceFault s) (l .left) at (omega arith) (cc), r .at),
-      cc (past-turn (pieceEnd s) (l .left) at (omega arith), r .at),
-      rw (r .at) (omega (arith, length-turn (pieceEnd s) (pieceCoords s) (l .left) at (omega arith))),
-      rw (r .at) (omega (arith, length-turn (pieceEnd s) (ringSizes s) (l .left) at (omega arith))),
-      cc (put-turn (pieceEnd s) (pieceCoords s) (l .out) (l .to .coords) (l .left) at (omega arith), r .at, r .coords, r .put),
-      cc (put-turn (pieceEnd s) (ringSizes s) (l .sizes) (l .to .rings) (l .left) at (omega arith), r .at, r .rings, r .sized),
-      cc (store-turn (pieceEnd s) (u8 s) (l .counts) (l .to .pieces) (l .left) at (omega arith), r .at, r .pieces, r .counted),
+      faults-turn (pieceEnd s) (pieceFault s) (l .left) at m f (r .at) (l .inv .6),
+      past-turn (pieceEnd s) (l .left) at m (r .at) (l .inv .7),
+      length-turn (pieceEnd s) (pieceCoords s) (l .to .coords) (l .left) at m (r .at) (r .coords) (l .inv .8),
+      length-turn (pieceEnd s) (ringSizes s) (l .to .rings) (l .left) at m (r .at) (r .rings) (l .inv .9),
+      put-turn (pieceEnd s) (pieceCoords s) (l .out) (l .to .coords) (l .left) at m (r .at) (r .coords) (r .put) (l .inv .10),
+      put-turn (pieceEnd s) (ringSizes s) (l .sizes) (l .to .rings) (l .left) at m (r .at) (r .rings) (r .sized) (l .inv .11),
+      store-turn (pieceEnd s) (u8 s) (l .counts) (l .to .pieces) (l .left) at m (r .at) (r .pieces) (r .counted) (l .inv .12),
     )
 
 same-length-4 : tie.Need-same-length-4 Inv-loop μ-loop
@@ -101,18 +104,19 @@ returns-2 c =
     let a = c .before .before .before .before .before .before .args in
     let s = a .s .now in
     let at = l .to .at in
+    let m : l .left ≤ 0 = omega arith in
     record {
-      fault = cc (faults-none (pieceEnd s) (pieceFault s) (l .left) at (omega arith));
+      fault = sym (faults-end (pieceEnd s) (pieceFault s) (l .left) at m (l .inv .6));
       read = λ e. record {
-        at = cc (past-none (pieceEnd s) (l .left) at (omega arith));
-        inside = omega arith;
-        behind = omega arith;
-        coords = omega (arith, length-none (pieceEnd s) (pieceCoords s) (l .left) at (omega arith));
-        rings = omega (arith, length-none (pieceEnd s) (ringSizes s) (l .left) at (omega arith));
+        at = past-end (pieceEnd s) (l .left) at m (l .inv .7);
+        inside = l .inv .0 .inside;
+        behind = l .inv .0 .behind;
+        coords = length-end (pieceEnd s) (pieceCoords s) (l .to .coords) (l .left) at m (l .inv .8);
+        rings = length-end (pieceEnd s) (ringSizes s) (l .to .rings) (l .left) at m (l .inv .9);
         pieces = omega (arith, length-each (pieceEnd s) (u8 s) (a .n) (a .c .at));
-        put = cc (put-none (pieceEnd s) (pieceCoords s) (l .out) (l .to .coords) (l .left) at (omega arith));
-        sized = cc (put-none (pieceEnd s) (ringSizes s) (l .sizes) (l .to .rings) (l .left) at (omega arith));
-        counted = cc (store-none (pieceEnd s) (u8 s) (l .counts) (l .to .pieces) (l .left) at (omega arith));
+        put = put-end (pieceEnd s) (pieceCoords s) (l .out) (l .to .coords) (l .left) at m (l .inv .10);
+        sized = put-end (pieceEnd s) (ringSizes s) (l .sizes) (l .to .rings) (l .left) at m (l .inv .11);
+        counted = store-end (pieceEnd s) (u8 s) (l .counts) (l .to .pieces) (l .left) at m (l .inv .12);
       };
     }
 

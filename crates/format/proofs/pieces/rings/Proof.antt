@@ -1,7 +1,7 @@
 -- `rings` reads rings one after the other. Invariant: what is left of them is at the place come to, and is still to be put.
 -- Rests on what `ring` ensures and one turn of a run.
-use mathlib.Core.Path.{_≡_}
-use Prim.Native.Nat.{_+_, _-_}
+use mathlib.Core.Path.{_≡_, sym, _∙_}
+use Prim.Native.Nat.{_+_, _-_, _<_, _≤_}
 use native.Mathlib.Omega.{arith}
 use lib.ListN.{length}
 use lib.Seq.{sets}
@@ -9,7 +9,7 @@ use Rattle.format.specs.Rows.{faults, past, each, flat}
 use Rattle.format.specs.Numbers.{u16}
 use Rattle.format.specs.Pieces.{ringFault, ringEnd, ring}
 use Rattle.format.specs.Steps.{Room}
-use Rattle.format.specs.RowLaws.{stop, go-on, faults-none, past-turn, past-none, store-turn, store-none, length-each, length-turn, length-none, put-turn, put-none}
+use Rattle.format.specs.RowLaws.{stop, faults-turn, faults-end, past-turn, past-end, store-turn, store-end, length-each, length-turn, length-end, put-turn, put-end}
 use borrow.Author.Needs.{needs}
 use Rattle.format.proofs.pieces.rings.Statement.{statement}
 use Rattle.format.proofs.pieces.rings.Tie as tie
@@ -46,8 +46,9 @@ returns : tie.Need-returns Inv-loop μ-loop
 returns c =
     let l = c .before .before .before .before .before .before .before .before .before .before .loop in
     let s = c .before .before .before .before .before .before .before .before .before .before .before .before .before .before .args .s .now in
+    let f = c .before .before .before .before .before .before .ring .ensures .fault in
     record {
-      fault = cc (stop (ringEnd s) (ringFault s) (l .left) (l .to .at) (omega arith) (λ e. c .if1 .taken (cc)));
+      fault = f ∙ sym (stop (ringEnd s) (ringFault s) (l .left) (l .to .at) (omega arith) (λ e. c .if1 .taken (f ∙ e)) (l .inv .5));
       read = λ e. absurd (c .if1 .taken e);
     }
 
@@ -62,17 +63,19 @@ loop-again c =
     let l = c .before .before .before .before .before .before .before .before .before .before .before .loop in
     let s = c .before .before .before .before .before .before .before .before .before .before .before .before .before .before .before .args .s .now in
     let at = l .to .at in
-    let r = c .before .before .before .before .before .before .before .ring .ensures .read (c .before .if1 .left) in (
+    let f : ringFault s at ≡ 0 = sym (c .before .before .before .before .before .before .before .ring .ensures .fault) ∙ c .before .if1 .left in
+    let r = c .before .before .before .before .before .before .before .ring .ensures .read (c .before .if1 .left) in
+    let m : 0 < l .left = omega arith in (
       record { inside = r .inside; behind = r .behind; enough = search needs },
       omega arith,
-      cc (r .pieces),
+      r .pieces ∙ l .inv .2,
       search needs,
       search needs,
-      cc (go-on (ringEnd s) (ringFault s) (l .left) at (omega arith) (cc), r .at),
-      cc (past-turn (ringEnd s) (l .left) at (omega arith), r .at),
-      rw (r .at) (omega (arith, length-turn (ringEnd s) (ring s) (l .left) at (omega arith))),
-      cc (put-turn (ringEnd s) (ring s) (l .out) (l .to .coords) (l .left) at (omega arith), r .at, r .coords, r .put),
-      cc (store-turn (ringEnd s) (u16 s) (l .sizes) (l .to .rings) (l .left) at (omega arith), r .at, r .rings, r .sized),
+      faults-turn (ringEnd s) (ringFault s) (l .left) at m f (r .at) (l .inv .5),
+      past-turn (ringEnd s) (l .left) at m (r .at) (l .inv .6),
+      length-turn (ringEnd s) (ring s) (l .to .coords) (l .left) at m (r .at) (r .coords) (l .inv .7),
+      put-turn (ringEnd s) (ring s) (l .out) (l .to .coords) (l .left) at m (r .at) (r .coords) (r .put) (l .inv .8),
+      store-turn (ringEnd s) (u16 s) (l .sizes) (l .to .rings) (l .left) at m (r .at) (r .rings) (r .sized) (l .inv .9),
     )
 
 same-length-3 : tie.Need-same-length-3 Inv-loop μ-loop
@@ -87,17 +90,18 @@ returns-2 c =
     let a = c .before .before .before .before .before .args in
     let s = a .s .now in
     let at = l .to .at in
+    let m : l .left ≤ 0 = omega arith in
     record {
-      fault = cc (faults-none (ringEnd s) (ringFault s) (l .left) at (omega arith));
+      fault = sym (faults-end (ringEnd s) (ringFault s) (l .left) at m (l .inv .5));
       read = λ e. record {
-        at = cc (past-none (ringEnd s) (l .left) at (omega arith));
-        inside = omega arith;
-        behind = omega arith;
-        coords = omega (arith, length-none (ringEnd s) (ring s) (l .left) at (omega arith));
+        at = past-end (ringEnd s) (l .left) at m (l .inv .6);
+        inside = l .inv .0 .inside;
+        behind = l .inv .0 .behind;
+        coords = length-end (ringEnd s) (ring s) (l .to .coords) (l .left) at m (l .inv .7);
         rings = omega (arith, length-each (ringEnd s) (u16 s) (a .n) (a .c .at));
-        pieces = cc;
-        put = cc (put-none (ringEnd s) (ring s) (l .out) (l .to .coords) (l .left) at (omega arith));
-        sized = cc (store-none (ringEnd s) (u16 s) (l .sizes) (l .to .rings) (l .left) at (omega arith));
+        pieces = l .inv .2;
+        put = put-end (ringEnd s) (ring s) (l .out) (l .to .coords) (l .left) at m (l .inv .8);
+        sized = store-end (ringEnd s) (u16 s) (l .sizes) (l .to .rings) (l .left) at m (l .inv .9);
       };
     }
 
