@@ -1,6 +1,1 @@
-mod Digit
-mod Pattern
-mod Residual
-mod Scaled
-mod Value
-mod Tests
+mod Flag

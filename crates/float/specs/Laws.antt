@@ -1,4 +1,14 @@
 pub mod Nan
+pub mod Compare
+pub mod Zero
+pub mod Same
+pub mod Order
 pub mod Pattern
+pub mod Total
+pub mod Whole
 pub mod Fits
+pub mod Square
 pub mod Floor
+pub mod Nearest
+pub mod Monotone
+pub mod Minimum

@@ -47,7 +47,7 @@ abbrev pub 0ᶠ : Float
 0ᶠ = literal 0
 
 abbrev pub -0ᶠ : Float
--0ᶠ = literal 0x8000_0000_0000_0000
+-0ᶠ = neg 0ᶠ
 
 abbrev pub ½ᶠ : Float
 ½ᶠ = literal 0x3fe0_0000_0000_0000

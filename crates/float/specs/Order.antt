@@ -1,5 +1,5 @@
 -- `f64`'s abs, min, max, clamp, sqrt and hypot, as the scope's stand-ins have them. Definitions only.
-use mathlib.Core.Bool.{Bool, true, false, cond}
+use mathlib.Core.Bool.{false, cond}
 use lib.Ieee.{Float, nan, inf, fin, binary64, isNan}
 use Rattle.float.specs.Ops.{_+ᶠ_, _*ᶠ_, _<ᶠ_}
 use Rattle.float.specs.Root.{rootOf}

@@ -1,5 +1,5 @@
 -- `f64`'s floor and ceil, and the casts of their results to integers. Definitions only.
-use mathlib.Core.Bool.{Bool, true, false}
+use mathlib.Core.Bool.{true, false}
 use Prim.Native.Nat.{ℕ, zero, suc, _+_, _-_, _*_, _/_}
 use lib.IntN.{ℤ, pos}
 use lib.Ieee.{Float, nan, inf, fin, binary64, up, down, neg, round, ofInt, toSigned, toUnsigned}

@@ -25,11 +25,19 @@ noWeight total = isNan total || total ≤ᶠ 0ᶠ
 unfoldable pub share : ℕ → Float → Float → Float
 share n total w = as-f64 n *ᶠ max (w /ᶠ total) 0ᶠ
 
+-- share.floor() as usize
+unfoldable pub wholeShare : ℕ → Float → Float → ℕ
+wholeShare n total w = as-usize (floor (share n total w))
+
+-- share - share.floor()
+unfoldable pub remainder : ℕ → Float → Float → Float
+remainder n total w = share n total w -ᶠ floor (share n total w)
+
 unfoldable pub base : ℕ → Float → List Float → List ℕ
-base n total weights = map (λ w. as-usize (floor (share n total w))) weights
+base n total weights = map (wholeShare n total) weights
 
 unfoldable pub rems : ℕ → Float → List Float → List Float
-rems n total weights = map (λ w. share n total w -ᶠ floor (share n total w)) weights
+rems n total weights = map (remainder n total) weights
 
 -- base.iter().sum()
 unfoldable pub assigned : List ℕ → ℕ

@@ -2,7 +2,7 @@
 -- Rests on the laws of a sorted list.
 use mathlib.Core.Path.{_≡_, refl, sym, ap, _∙_}
 use mathlib.Core.Bool.{Bool, true, false, cond}
-use mathlib.Core.List.{List, [], _∷_, _++_, map}
+use mathlib.Core.List.{List, [], _∷_, _++_, map, foldl}
 use mathlib.Core.Logic.{⊎-elim}
 use Prim.Native.Nat.{ℕ, zero, suc, _+_, _-_, _<_, _≤_, min, compare, Ordering, Ordering·lt, Ordering·eq, Ordering·gt}
 use native.Mathlib.Omega.{arith}
@@ -16,11 +16,9 @@ use borrow.Author.Tests.{eq-eqb, ne-eqb, lt-ltb, le-ltb}
 use Rattle.laws.specs.Orders.{Linear, _thenBy_, linear-compare, linear-on, linear-reversed, linear-then, told, compared, lt-or-le}
 use Rattle.laws.specs.Sort.{sortBy}
 use Rattle.laws.specs.Sorted.{weigh, weigh-sort, rank, levels, ifLt, ifEq, sort-ascending, in-first}
-use Rattle.laws.specs.Lists.{upTo, tabulate, length-tabulate, tabulate-at}
-use Rattle.float.specs.Ops.{_-ᶠ_}
-use Rattle.float.specs.Whole.{floor, as-usize}
+use Rattle.laws.specs.Lists.{upTo, tabulate, length-tabulate, tabulate-at, getD-map}
 use Rattle.float.specs.Total.{totalKey, totalCmp}
-use Rattle.glyphs.specs.Apportion.{total, noWeight, share, base, rems, assigned, byRemainder, order, handOut, apportion}
+use Rattle.glyphs.specs.Apportion.{total, noWeight, wholeShare, remainder, base, rems, assigned, byRemainder, order, handOut, apportion}
 
 -- ---- one more for each index handed out
 abbrev at : ℕ → ℕ → ℕ
@@ -71,7 +69,7 @@ unfolding weigh
 weigh-same p q [] h = refl
 weigh-same p q (i ∷ is) h = rw (h i, weigh-same p q is h)
 
-weigh-append : (p : ℕ → ℕ) (is js : List ℕ) → weigh p (is ++ js) ≡ weigh p is + weigh p js
+pub weigh-append : (p : ℕ → ℕ) (is js : List ℕ) → weigh p (is ++ js) ≡ weigh p is + weigh p js
 unfolding weigh
 weigh-append p [] js = omega arith
 weigh-append p (i ∷ is) js = omega (arith, weigh-append p is js)
@@ -142,11 +140,11 @@ all-to-first n k =
 
 length-base : (n : ℕ) (sum : Float) (weights : List Float) → length (base n sum weights) ≡ length weights
 unfolding base
-length-base n sum weights = length-map weights (λ (w : Float). as-usize (floor (share n sum w)))
+length-base n sum weights = length-map weights (wholeShare n sum)
 
 length-rems : (n : ℕ) (sum : Float) (weights : List Float) → length (rems n sum weights) ≡ length weights
 unfolding rems
-length-rems n sum weights = length-map weights (λ (w : Float). share n sum w -ᶠ floor (share n sum w))
+length-rems n sum weights = length-map weights (remainder n sum)
 
 -- the quota of piece i
 unfoldable pub quotaOf : ℕ → Float → ℕ → List Float → ℕ → ℕ
@@ -155,6 +153,50 @@ quotaOf n sum left weights i = cond (noWeight sum) (firstOnly n i) (quotaAt (bas
 -- what the floors leave over
 unfoldable pub leftOver : ℕ → Float → List Float → ℕ
 leftOver n sum weights = n - assigned (base n sum weights)
+
+-- ---- as the loops go
+abbrev pub spend : ℕ → Float → ℕ → Float → ℕ
+spend n sum left w = left - wholeShare n sum w
+
+add-from : (a : ℕ) (l : List ℕ) → foldl _+_ a l ≡ a + foldl _+_ 0 l
+add-from a [] = omega arith
+add-from a (x ∷ xs) = omega (arith, add-from (a + x) xs, add-from (0 + x) xs)
+
+spent-from : (n : ℕ) (sum : Float) (left : ℕ) (weights : List Float) → foldl (spend n sum) left weights ≡ left - foldl _+_ 0 (map (wholeShare n sum) weights)
+spent-from n sum left [] = omega arith
+spent-from n sum left (w ∷ ws) =
+    omega (arith, spent-from n sum (left - wholeShare n sum w) ws, add-from (0 + wholeShare n sum w) (map (wholeShare n sum) ws))
+
+pub spent : (n : ℕ) (sum : Float) (weights : List Float) → foldl (spend n sum) n weights ≡ leftOver n sum weights
+unfolding leftOver assigned base
+spent n sum weights = spent-from n sum n weights
+
+-- where something is left over, no floor reaches n
+pub floor-below :
+    (n : ℕ) (sum : Float) (weights : List Float) (i : ℕ) (d : Float) → i < length weights → 0 < leftOver n sum weights
+    → wholeShare n sum (getD weights i d) < n
+unfolding leftOver assigned base
+floor-below n sum weights i d h k = omega (arith, below weights i h)
+  where
+    below : (ws : List Float) (i : ℕ) → i < length ws → wholeShare n sum (getD ws i d) ≤ foldl _+_ 0 (map (wholeShare n sum) ws)
+    below [] i h = absurd (omega arith)
+    below (w ∷ ws) zero h = omega (arith, add-from (0 + wholeShare n sum w) (map (wholeShare n sum) ws))
+    below (w ∷ ws) (suc i) h = omega (arith, below ws i (omega arith), add-from (0 + wholeShare n sum w) (map (wholeShare n sum) ws))
+
+-- two indices by the keys of their remainders
+pub by-keys :
+    (n : ℕ) (sum : Float) (weights : List Float) (i j : ℕ) (d : Float) → i < length weights → j < length weights
+    → byRemainder (rems n sum weights) j i
+    ≡ compare (totalKey (remainder n sum (getD weights i d))) (totalKey (remainder n sum (getD weights j d))) thenBy compare j i
+unfolding byRemainder totalCmp rems
+by-keys n sum weights i j d h k = rw (getD-map (remainder n sum) weights i d nan h, getD-map (remainder n sum) weights j d nan k)
+
+-- the quota where there is weight: the floor, and one by the rank
+pub by-rank :
+    (n : ℕ) (sum : Float) (left : ℕ) (weights : List Float) (i : ℕ) → noWeight sum ≡ false → i < length weights
+    → quotaOf n sum left weights i ≡ wholeShare n sum (getD weights i nan) + cond (ltb (rank (byRemainder (rems n sum weights)) i (upTo (length weights))) left) 1 0
+unfolding quotaOf quotaAt base
+by-rank n sum left weights i e h = rw (e, getD-map (wholeShare n sum) weights i nan 0 h, length-rems n sum weights)
 
 by-weight : {A : Type 0} (b : Bool) (f g : ℕ → A) (k : ℕ) (l m : List A) → l ≡ tabulate f k → m ≡ tabulate g k → cond b l m ≡ tabulate (λ (i : ℕ). cond b (f i) (g i)) k
 by-weight true f g k l m p q = p

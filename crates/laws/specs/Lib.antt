@@ -1,3 +1,4 @@
+pub mod Any
 pub mod Casts
 pub mod Choice
 pub mod Folds

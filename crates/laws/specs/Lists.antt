@@ -62,6 +62,13 @@ module _ {A : Type 0} where
   unfolding written
   length-written xs l h = simp (length-append, length-drop) (omega arith)
 
+  -- a turn of a loop that writes a rule's values in order
+  pub write-next :
+      (f : ℕ → A) (xs l : List A) (n : ℕ) (v : A) → xs ≡ written (tabulate f n) l → v ≡ f n → n < length l
+      → set xs n v ≡ written (tabulate f (n + 1)) l
+  write-next f xs l n v e h k =
+      rw (e, h, tabulate-next f n) (written-next (tabulate f n) l n (f n) (length-tabulate f n) k)
+
   -- a default is not looked at within the list
   pub getD-any : (l : List A) (i : ℕ) (d e : A) → i < length l → getD l i d ≡ getD l i e
   getD-any [] i d e h = absurd (omega arith)

@@ -2,10 +2,10 @@
 -- Rests on the order being linear.
 use mathlib.Core.Path.{_≡_, refl, sym, ap, _∙_}
 use mathlib.Core.List.{List, [], _∷_}
-use Prim.Native.Nat.{ℕ, zero, suc, _+_, _-_, min, Ordering, Ordering·lt, Ordering·eq, Ordering·gt}
+use Prim.Native.Nat.{ℕ, zero, suc, _+_, _-_, _≤_, min, compare, Ordering, Ordering·lt, Ordering·eq, Ordering·gt}
 use native.Mathlib.Omega.{arith}
 use lib.ListN.{take}
-use Rattle.laws.specs.Orders.{Linear, reverse, turned-to, level-right}
+use Rattle.laws.specs.Orders.{Linear, Says, says, reverse, turned-to, level-right}
 use Rattle.laws.specs.Sort.{place, insert, sortBy}
 
 -- the elements' weights together
@@ -23,6 +23,19 @@ abbrev pub ifEq : Ordering → ℕ
 ifEq Ordering·lt = 0
 ifEq Ordering·eq = 1
 ifEq Ordering·gt = 0
+
+pub ifLt-le : (o : Ordering) → ifLt o ≤ 1
+ifLt-le Ordering·lt = omega arith
+ifLt-le Ordering·eq = omega arith
+ifLt-le Ordering·gt = omega arith
+
+not-below : (m n : ℕ) (o : Ordering) → Says m n o → n ≤ m → ifLt o ≡ 0
+not-below m n Ordering·lt s h = absurd (omega arith)
+not-below m n Ordering·eq s h = refl
+not-below m n Ordering·gt s h = refl
+
+pub ifLt-none : (m n : ℕ) → n ≤ m → ifLt (compare m n) ≡ 0
+ifLt-none m n h = not-below m n (compare m n) (says m n) h
 
 abbrev NotGt : Ordering → Type 0
 NotGt Ordering·lt = Unit {0}

@@ -22,3 +22,11 @@ or-l false b t = absurd t
 pub or-r : (a b : Bool) → T b → T (a || b)
 or-r true b t = tt
 or-r false b t = t
+
+pub nor-l : (a b : Bool) → T (not (a || b)) → T (not a)
+nor-l true b t = t
+nor-l false b t = tt
+
+pub nor-r : (a b : Bool) → T (not (a || b)) → T (not b)
+nor-r true b t = absurd t
+nor-r false b t = t

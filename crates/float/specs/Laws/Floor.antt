@@ -1,25 +1,21 @@
 -- `floorRoot` is the whole part of the root, and `nearestRoot` of a * 4 ^ k, for an a whose root has all the digits that the format keeps, is r * 2 ^ k,
--- for the r with 2 * √a between 2 * r - 1 and 2 * r + 1. Assumes nothing.
-use mathlib.Core.Path.{_≡_, refl, sym, ap, _∙_, subst}
-use Prim.Native.Nat.{ℕ, zero, suc, _+_, _-_, _*_, _/_, _%_, _^_, _≤_, _<_, zero-le, compare, Ordering, Ordering·lt, Ordering·eq, Ordering·gt}
-use native.Mathlib.Nat.{le-refl, le-trans, le-of-eq, le-of-lt, lt-of-lt-of-le, lt-of-le-of-lt, lt-of-not-le, not-le-of-lt, mul-le-mul, mul-le-mul-right, mul-lt-mul-of-pos-right, lt-of-mul-lt-mul-right, le-of-mul-le-mul-right, eq-of-mul-eq-mul-right, mul-pos, mul-assoc, mul-comm, mul-mul-mul-comm, pow-suc, pow-le-pow-left, zero-lt-suc, div-lt-iff-lt-mul, div-mul-le-self, lt-div-mul-add, lt-suc-self, add-mul, one-mul}
-use native.Mathlib.Numerals.{add-one}
-use native.Mathlib.Omega.{arith}
+-- for the whole number r nearest to √a. Rests on the kit's count of digits.
+use mathlib.Core.Path.{_≡_, sym, ap, _∙_, subst}
 use mathlib.Core.Bool.{Bool, true, false, not, cond}
-use lib.Dec.{T, leb, isLe, isEq, eqb, leb→le, nleb→lt, eqb→eq, eqb-refl, lit≤}
-use lib.Arith.{lt-of-le-ne}
+use Prim.Native.Nat.{ℕ, zero, suc, _+_, _-_, _*_, _/_, _^_, _≤_, _<_, zero-le, compare, Ordering, Ordering·lt, Ordering·eq, Ordering·gt}
+use native.Mathlib.Nat.{le-trans, le-of-eq, lt-of-lt-of-le, lt-of-le-of-lt, lt-of-not-le, not-le-of-lt, mul-le-mul, mul-le-mul-right, mul-lt-mul-of-pos-right, lt-of-mul-lt-mul-right, le-of-mul-le-mul-right, eq-of-mul-eq-mul-right, mul-pos, mul-assoc, mul-mul-mul-comm, pow-suc, pow-le-pow-left, zero-lt-suc, div-lt-iff-lt-mul, div-mul-le-self, lt-div-mul-add}
+use native.Mathlib.Omega.{arith}
+use lib.Dec.{T, leb, leb→le, nleb→lt, lit≤}
 use lib.Pow.{pow-add, pow-pos, pow-mono}
 use lib.Ieee.{Format, prec, size, nearest, units}
-use lib.Ieee.Digits.{size-lt, size-le, size-reaches}
+use lib.Ieee.Digits.{size-lt, size-le}
 use lib.Ieee.Fits.{two, two-le-pos}
+use Rattle.laws.specs.Orders.{Says, says}
 use Rattle.float.specs.Root.{floorRoot, nearestRoot, Near}
 
--- ---- squares
+-- ---- roots are compared by their squares
 pub root-lt : {a b : ℕ} → a * a < b * b → a < b
 root-lt {a} {b} h = lt-of-not-le (λ (g : b ≤ a). not-le-of-lt h (mul-le-mul g g))
-
-double : (s : ℕ) → 2 * s * (2 * s) ≡ 4 * (s * s)
-double s = mul-mul-mul-comm 2 s 2 s
 
 -- ---- the whole part
 abbrev pub Floor : ℕ → ℕ → Type 0
@@ -29,18 +25,9 @@ Floor n w = (w * w ≤ n) × (n < (w + 1) * (w + 1))
 digit : (n s : ℕ) → Floor (n / 4) s → Floor n (cond (leb ((2 * s + 1) * (2 * s + 1)) n) (2 * s + 1) (2 * s))
 digit n s h = go (leb ((2 * s + 1) * (2 * s + 1)) n) (leb→le ((2 * s + 1) * (2 * s + 1)) n) (nleb→lt ((2 * s + 1) * (2 * s + 1)) n)
   where
-    lo : 2 * s * (2 * s) ≤ n
-    lo = let d = double s in let l = h .0 in omega arith
-
-    hi : n < (2 * s + 1 + 1) * (2 * s + 1 + 1)
-    hi =
-        let e : 2 * s + 1 + 1 ≡ 2 * (s + 1) = omega arith in
-        let l = h .1 in
-        subst (λ (x : ℕ). n < x * x) (sym e) (let d = double (s + 1) in omega arith)
-
     go : (b : Bool) → (T b → (2 * s + 1) * (2 * s + 1) ≤ n) → (T (not b) → n < (2 * s + 1) * (2 * s + 1)) → Floor n (cond b (2 * s + 1) (2 * s))
-    go true y z = (y tt, hi)
-    go false y z = (lo, z tt)
+    go true y z = (y tt, omega (arith, h .1))
+    go false y z = (omega (arith, h .0), z tt)
 
 pub floor-is : (d n : ℕ) → n < 4 ^ d → Floor n (floorRoot d n)
 unfolding floorRoot
@@ -50,58 +37,30 @@ floor-is (suc d) n h = digit n (floorRoot d (n / 4)) (floor-is d (n / 4) (div-lt
 pub whole-part : (n : ℕ) → Floor n (floorRoot (size n) n)
 whole-part n = floor-is (size n) n (lt-of-lt-of-le (size-lt n) (pow-le-pow-left (lit≤ tt) (size n)))
 
--- ---- what `compare` says
-abbrev pub Cmp : Ordering → ℕ → ℕ → Type 0
-Cmp Ordering·lt a b = a < b
-Cmp Ordering·eq a b = a ≡ b
-Cmp Ordering·gt a b = b < a
-
-pub cmp : (a b : ℕ) → Cmp (compare a b) a b
-cmp a b = go (compare a b) (leb→le a b) (nleb→lt a b) (eqb→eq a b) (λ (e : a ≡ b). subst (λ (x : ℕ). T (eqb a x)) e (eqb-refl a))
-  where
-    go : (o : Ordering) → (T (isLe o) → a ≤ b) → (T (not (isLe o)) → b < a) → (T (isEq o) → a ≡ b) → (a ≡ b → T (isEq o)) → Cmp o a b
-    go Ordering·lt h k e n = lt-of-le-ne (h tt) n
-    go Ordering·eq h k e n = e tt
-    go Ordering·gt h k e n = k tt
-
-cancel : (o : Ordering) (a b u : ℕ) → 0 < u → Cmp o (a * u) (b * u) → Cmp o a b
-cancel Ordering·lt a b u U h = lt-of-mul-lt-mul-right u h
-cancel Ordering·eq a b u U h = eq-of-mul-eq-mul-right u U a b h
-cancel Ordering·gt a b u U h = lt-of-mul-lt-mul-right u h
-
--- ---- rounding the whole part q of √a
-rounded : (o : Ordering) (a q r : ℕ) → Floor a q → Near a r → Cmp o (4 * a) ((2 * q + 1) * (2 * q + 1)) → nearest q o ≡ r
+-- ---- rounding the whole part q of √a: where r is nearest, `nearest` finds it, and a tie does not occur
+rounded : (o : Ordering) (a q r : ℕ) → Floor a q → Near a r → Says (4 * a) ((2 * q + 1) * (2 * q + 1)) o → nearest q o ≡ r
 rounded Ordering·lt a q r f n h =
-    let x : 2 * q < 2 * r + 1 = root-lt (lt-of-le-of-lt (low a q f) (n .1)) in
-    let y : 2 * r - 1 < 2 * q + 1 = root-lt (lt-of-lt-of-le (n .0) (le-of-lt h)) in
+    let x : 2 * q < 2 * r + 1 = root-lt (omega (arith, f .0, n .1)) in
+    let y : 2 * r - 1 < 2 * q + 1 = root-lt (omega (arith, n .0, h)) in
     omega arith
-  where
-    low : (a q : ℕ) → Floor a q → 2 * q * (2 * q) ≤ 4 * a
-    low a q f = let d = double q in let l = f .0 in omega arith
 rounded Ordering·eq a q r f n h =
-    let x : 2 * q + 1 < 2 * r + 1 = root-lt (lt-of-le-of-lt (le-of-eq (sym h)) (n .1)) in
-    let y : 2 * r - 1 < 2 * q + 1 = root-lt (lt-of-lt-of-le (n .0) (le-of-eq h)) in
-    absurd (no q r x y)
-  where
-    no : (q r : ℕ) → 2 * q + 1 < 2 * r + 1 → 2 * r - 1 < 2 * q + 1 → ⊥
-    no q r x y = omega arith
+    let x : 2 * q + 1 < 2 * r + 1 = root-lt (omega (arith, n .1, h)) in
+    let y : 2 * r - 1 < 2 * q + 1 = root-lt (omega (arith, n .0, h)) in
+    absurd (omega arith)
 rounded Ordering·gt a q r f n h =
-    let x : 2 * q + 1 < 2 * r + 1 = root-lt (lt-of-lt-of-le h (le-of-lt (n .1))) in
-    let y : 2 * r - 1 < 2 * (q + 1) = root-lt (lt-of-lt-of-le (n .0) (high a q f)) in
+    let x : 2 * q + 1 < 2 * r + 1 = root-lt (omega (arith, n .1, h)) in
+    let y : 2 * r - 1 < 2 * (q + 1) = root-lt (omega (arith, n .0, f .1)) in
     omega arith
-  where
-    high : (a q : ℕ) → Floor a q → 4 * a ≤ 2 * (q + 1) * (2 * (q + 1))
-    high a q f = let d = double (q + 1) in let l = f .1 in omega arith
 
 -- ---- the whole part of √(a * (u * u)), cut to multiples of u, is that of √a
-cut : (a u w : ℕ) → 0 < u → Floor (a * (u * u)) w → Floor a (w / u)
+pub cut : (a u w : ℕ) → 0 < u → Floor (a * (u * u)) w → Floor a (w / u)
 cut a u w U f = (
   le-of-mul-le-mul-right (le-trans (le-of-eq (mul-mul-mul-comm (w / u) (w / u) u u)) (le-trans (mul-le-mul (div-mul-le-self w u) (div-mul-le-self w u)) (f .0))) (mul-pos U U),
   lt-of-mul-lt-mul-right (u * u) (lt-of-lt-of-le (f .1) (le-trans (mul-le-mul next next) (le-of-eq (mul-mul-mul-comm (w / u + 1) u (w / u + 1) u)))),
 )
   where
     next : w + 1 ≤ (w / u + 1) * u
-    next = le-trans (le-of-eq (add-one w)) (lt-of-lt-of-le (lt-div-mul-add U) (le-of-eq (sym (add-mul (w / u) 1 u ∙ ap (λ (x : ℕ). w / u * u + x) (one-mul u)))))
+    next = omega (arith, lt-div-mul-add {a = w} U)
 
 -- ---- the digits that are dropped
 size-gt : (n j : ℕ) → 2 ^ j ≤ n → j < size n
@@ -123,6 +82,11 @@ drops p a k w P l h f =
 abbrev pub mid : ℕ → ℕ → ℕ
 mid q k = (2 * q + 1) * (2 * q + 1) * (2 ^ k * 2 ^ k)
 
+cancel : (o : Ordering) (a b u : ℕ) → 0 < u → Says (a * u) (b * u) o → Says a b o
+cancel Ordering·lt a b u U h = lt-of-mul-lt-mul-right u h
+cancel Ordering·eq a b u U h = eq-of-mul-eq-mul-right u U a b h
+cancel Ordering·gt a b u U h = lt-of-mul-lt-mul-right u h
+
 pub nearest-at : (f : Format) (a k r : ℕ) → 2 ^ (prec f - 1) * 2 ^ (prec f - 1) ≤ a → a < 2 ^ prec f * 2 ^ prec f → Near a r → nearestRoot f (a * (2 ^ k * 2 ^ k)) ≡ units f false r k
 unfolding nearestRoot
 nearest-at f a k r l h n =
@@ -130,20 +94,14 @@ nearest-at f a k r l h n =
     let w = floorRoot (size N) N in
     let q = w / 2 ^ k in
     let o = compare (4 * N) (mid q k) in
-    let c : Cmp o (4 * a * (2 ^ k * 2 ^ k)) (mid q k) = subst (λ (x : ℕ). Cmp o x (mid q k)) (sym (mul-assoc 4 a (2 ^ k * 2 ^ k))) (cmp (4 * N) (mid q k)) in
+    let c : Says (4 * a * (2 ^ k * 2 ^ k)) (mid q k) o = subst (λ (x : ℕ). Says x (mid q k) o) (sym (mul-assoc 4 a (2 ^ k * 2 ^ k))) (says (4 * N) (mid q k)) in
     ap (λ (j : ℕ). units f false (nearest (w / 2 ^ j) (compare (4 * N) (mid (w / 2 ^ j) j))) j) (drops (prec f) a k w (two-le-pos (prec f) (two f)) l h (whole-part N))
     ∙ ap (λ (x : ℕ). units f false x k)
     (rounded o a q r (cut a (2 ^ k) w (pow-pos k) (whole-part N)) n (cancel o (4 * a) ((2 * q + 1) * (2 * q + 1)) (2 ^ k * 2 ^ k) (mul-pos (pow-pos k) (pow-pos k)) c))
 
 -- ---- how large such an r is
 pub near-le : (a r b : ℕ) → a < b * b → Near a r → r ≤ b
-near-le a r b h n =
-    let d = double b in
-    let x : 2 * r - 1 < 2 * b = root-lt (lt-of-lt-of-le (n .0) (omega arith)) in
-    omega arith
+near-le a r b h n = let x : 2 * r - 1 < 2 * b = root-lt (omega (arith, n .0)) in omega arith
 
 pub near-ge : (a r b : ℕ) → b * b ≤ a → Near a r → b ≤ r
-near-ge a r b h n =
-    let d = double b in
-    let x : 2 * b < 2 * r + 1 = root-lt (lt-of-le-of-lt (omega arith) (n .1)) in
-    omega arith
+near-ge a r b h n = let x : 2 * b < 2 * r + 1 = root-lt (omega (arith, n .1)) in omega arith

@@ -1,9 +1,10 @@
 -- Numbers, which are the values that are no NaN: `x != x` tells them, and a comparison that holds is of two of them.
 -- Assumes nothing.
 use mathlib.Core.Path.{_≡_, refl, sym, _∙_}
-use mathlib.Core.Bool.{Bool, true, false, not}
+use mathlib.Core.Logic.{_⊎_, inl, inr}
+use mathlib.Core.Bool.{true, false, not}
 use Prim.Native.Nat.{_*_}
-use lib.Dec.{T, eqb}
+use lib.Dec.{T}
 use lib.Ieee.{Float, nan, inf, fin, up, down, lt, le, eq, ne, isNan}
 use borrow.Author.Tests.{eq-eqb}
 use Rattle.laws.specs.Truth.{no}
@@ -27,6 +28,18 @@ not-nan x h = sym (ne-self x) ∙ h
 
 pub is-number : (x : Float) → ne x x ≡ false → Number x
 is-number x h = no (not-nan x h)
+
+pub nan-or : (x : Float) → (x ≡ nan) ⊎ Number x
+unfolding isNan
+nan-or nan = inl refl
+nan-or (inf s) = inr tt
+nan-or (fin s m e) = inr tt
+
+pub lt-nan : (x : Float) → (lt x nan ≡ false) × (lt nan x ≡ false)
+unfolding lt
+lt-nan nan = (refl, refl)
+lt-nan (inf s) = (refl, refl)
+lt-nan (fin s m e) = (refl, refl)
 
 -- ---- the two values of a comparison that holds
 pub lt-number : (x y : Float) → T (lt x y) → Number x × Number y

@@ -1,0 +1,6 @@
+mod Digit
+mod Residual
+mod Fields
+mod Scaled
+mod Value
+mod Tests

@@ -1,0 +1,2 @@
+mod Casts
+mod Whole

@@ -1,0 +1,21 @@
+-- `root_at_least` meets its contract: from the upper square on no root is taken.
+-- Rests on the law that the root of such a square is at least the clearance.
+use mathlib.Core.Path.{sym, ap, subst}
+use borrow.Author.Needs.{needs}
+use lib.Dec.{T}
+use lib.Ieee.{Float, le}
+use lib.Ieee.Bits.{is-true}
+use Rattle.laws.specs.Truth.{yes}
+use Rattle.regions.specs.Margin.{high-of-margin}
+use Rattle.regions.specs.Early.{high-square}
+use Rattle.regions.proofs.margin.root_at_least.Statement.{statement}
+use Rattle.regions.proofs.margin.root_at_least.Tie as tie
+
+returns : tie.Need-returns
+returns c =
+    let m = c .before .before .args .margin in
+    let u = c .before .before .args .square in
+    sym (is-true _ (high-square (m .least) u (subst (λ (x : Float). T (le x u)) (high-of-margin m (c .before .before .pre)) (yes (c .if1 .taken)))))
+
+pub root-at-least-spec : {M : Type 1} → statement M
+root-at-least-spec = tie.close (tie.spec returns (λ c κs. search needs) (λ c. rw (c .before .root .ensures)))
