@@ -261,7 +261,7 @@ module _ (halves l : List Float) (m : ℕ) where
           queue = p .queue;
           bag = λ f. omega (arith, p .bag f, w .bag f, sum-enter halves f c q);
           sorted = sorted-enter halves n c q e (w .below) (w .sorted);
-          below = each-enter halves (λ a. a .entry < n + 1) c q (omega arith) (each-map halves (λ a. a .entry < n) (λ a. a .entry < n + 1) (λ a h. omega arith) q (w .below))
+          below = each-enter halves (λ a. a .entry < n + 1) c q (omega arith) (each-map halves (λ a. a .entry < n) (λ a. a .entry < n + 1) (λ a h. omega arith) q (w .below));
         }
 
     pub match-length : length q ≡ m
@@ -312,6 +312,6 @@ module _ (halves l : List Float) (m : ℕ) where
           queue = p .queue j e;
           bag = λ f. omega (arith, p .bag f j e, w .bag f, ap f same);
           sorted = w .sorted .1;
-          below = w .below .1
+          below = w .below .1;
         },
       )

@@ -42,7 +42,7 @@ module _ (piece : Piece) (halves : List Float) (precision : Float) (room : ℕ) 
         long = refl;
         queue = q;
         light = w;
-        left = λ q w. record { f = sumOver heft q; q = q; match = w; enough = le-refl (sumOver heft q); same = refl }
+        left = λ q w. record { f = sumOver heft q; q = q; match = w; enough = le-refl (sumOver heft q); same = refl };
       }
 
   module _
@@ -59,109 +59,109 @@ module _ (piece : Piece) (halves : List Float) (precision : Float) (room : ℕ) 
       (some : m ≡ j + 1)
       (p : Popped halves l m c l′)
     where
-    -- what waits weighs more than what is left
-    pub lighter : total heft (cellAt l′) j + heft c ≡ total heft (cellAt l) m
-    lighter = p .bag heft j some
+      -- what waits weighs more than what is left
+      pub lighter : total heft (cellAt l′) j + heft c ≡ total heft (cellAt l) m
+      lighter = p .bag heft j some
 
-    -- the list without its first, and its weight
-    record Rest (q : List Cell) : Type 0 where
-      t : List Cell
-      is : q ≡ c ∷ t
-      match : Match halves l′ j t n
-      weight : sumOver heft q ≡ heft c + sumOver heft t
+      -- the list without its first, and its weight
+      record Rest (q : List Cell) : Type 0 where
+        t : List Cell
+        is : q ≡ c ∷ t
+        match : Match halves l′ j t n
+        weight : sumOver heft q ≡ heft c + sumOver heft t
 
-    rest : (q : List Cell) → Match halves l m q n → Rest q
-    unfolding sumOver
-    rest q w =
-        let r = match-pop halves l m q n w c l′ j some p in
-        record { t = r .0; is = r .1; match = r .2; weight = ap (sumOver heft) (r .1) }
+      rest : (q : List Cell) → Match halves l m q n → Rest q
+      unfolding sumOver
+      rest q w =
+          let r = match-pop halves l m q n w c l′ j some p in
+          record { t = r .0; is = r .1; match = r .2; weight = ap (sumOver heft) (r .1) }
 
-    one : 0 < heft c
-    one = nodes-pos (21 - c .halvings)
+      one : 0 < heft c
+      one = nodes-pos (21 - c .halvings)
 
-    left-keep : {d : Deepest} → splitsAt halves precision c (betterOf best c) ≡ false → Left d l m n best → Left d l′ j n (betterOf best c)
-    left-keep e u =
-        let r = rest (u .q) (u .match) in
-        let a = r .weight in
-        let b = u .enough in
-        let z = one in
-        record {
-          f = u .f - 1;
-          q = r .t;
-          match = r .match;
-          enough = omega arith;
-          same =
-              u .same
-              ∙ ap (λ (q : List Cell). turns piece halves (u .f) precision room q best n) (r .is)
-              ∙ turn-keep piece halves precision room (u .f) c (r .t) best n (omega arith) e
-        }
+      left-keep : {d : Deepest} → splitsAt halves precision c (betterOf best c) ≡ false → Left d l m n best → Left d l′ j n (betterOf best c)
+      left-keep e u =
+          let r = rest (u .q) (u .match) in
+          let a = r .weight in
+          let b = u .enough in
+          let z = one in
+          record {
+            f = u .f - 1;
+            q = r .t;
+            match = r .match;
+            enough = omega arith;
+            same =
+                u .same
+                ∙ ap (λ (q : List Cell). turns piece halves (u .f) precision room q best n) (r .is)
+                ∙ turn-keep piece halves precision room (u .f) c (r .t) best n (omega arith) e;
+          }
 
-    left-split :
-        {d : Deepest} (l″ : List Float) → splitsAt halves precision c (betterOf best c) ≡ true → c .halvings < 21 → j + 4 ≤ room
-        → Quartered piece halves l′ j c n l″ → Left d l m n best → Left d l″ (j + 4) (n + 4) (betterOf best c)
-    left-split l″ e k g h u =
-        let r = rest (u .q) (u .match) in
-        let a = r .weight in
-        let b = u .enough in
-        let z = one in
-        let w = weight-four piece halves c n (r .t) in
-        let v = nodes-split (c .halvings) k in
-        let size = match-length halves l′ j (r .t) n (r .match) in
-        record {
-          f = u .f - 1;
-          q = enterFour piece halves c n (r .t);
-          match = h .match (r .t) (r .match);
-          enough = omega arith;
-          same =
-              u .same
-              ∙ ap (λ (q : List Cell). turns piece halves (u .f) precision room q best n) (r .is)
-              ∙ turn-split piece halves precision room (u .f) c (r .t) best n (omega arith) e (omega arith)
-        }
+      left-split :
+          {d : Deepest} (l″ : List Float) → splitsAt halves precision c (betterOf best c) ≡ true → c .halvings < 21 → j + 4 ≤ room
+          → Quartered piece halves l′ j c n l″ → Left d l m n best → Left d l″ (j + 4) (n + 4) (betterOf best c)
+      left-split l″ e k g h u =
+          let r = rest (u .q) (u .match) in
+          let a = r .weight in
+          let b = u .enough in
+          let z = one in
+          let w = weight-four piece halves c n (r .t) in
+          let v = nodes-split (c .halvings) k in
+          let size = match-length halves l′ j (r .t) n (r .match) in
+          record {
+            f = u .f - 1;
+            q = enterFour piece halves c n (r .t);
+            match = h .match (r .t) (r .match);
+            enough = omega arith;
+            same =
+                u .same
+                ∙ ap (λ (q : List Cell). turns piece halves (u .f) precision room q best n) (r .is)
+                ∙ turn-split piece halves precision room (u .f) c (r .t) best n (omega arith) e (omega arith);
+          }
 
-    left-full : {d : Deepest} → splitsAt halves precision c (betterOf best c) ≡ true → room < j + 4 → Left d l m n best → d ≡ Full
-    left-full e g u =
-        let r = rest (u .q) (u .match) in
-        let a = r .weight in
-        let b = u .enough in
-        let z = one in
-        let size = match-length halves l′ j (r .t) n (r .match) in
-        u .same
-        ∙ ap (λ (q : List Cell). turns piece halves (u .f) precision room q best n) (r .is)
-        ∙ turn-full piece halves precision room (u .f) c (r .t) best n (omega arith) e (omega arith)
+      left-full : {d : Deepest} → splitsAt halves precision c (betterOf best c) ≡ true → room < j + 4 → Left d l m n best → d ≡ Full
+      left-full e g u =
+          let r = rest (u .q) (u .match) in
+          let a = r .weight in
+          let b = u .enough in
+          let z = one in
+          let size = match-length halves l′ j (r .t) n (r .match) in
+          u .same
+          ∙ ap (λ (q : List Cell). turns piece halves (u .f) precision room q best n) (r .is)
+          ∙ turn-full piece halves precision room (u .f) c (r .t) best n (omega arith) e (omega arith)
 
-    pub search-keep : splitsAt halves precision c (betterOf best c) ≡ false → Searching l₀ m₀ best₀ l′ j n (betterOf best c)
-    search-keep e =
-        let w = lighter in
-        let a = s .light in
-        record { long = p .long ∙ s .long; queue = p .queue j some; light = omega arith; left = λ q w. left-keep e (s .left q w) }
+      pub search-keep : splitsAt halves precision c (betterOf best c) ≡ false → Searching l₀ m₀ best₀ l′ j n (betterOf best c)
+      search-keep e =
+          let w = lighter in
+          let a = s .light in
+          record { long = p .long ∙ s .long; queue = p .queue j some; light = omega arith; left = λ q w. left-keep e (s .left q w) }
 
-    pub search-split :
-        (l″ : List Float) → splitsAt halves precision c (betterOf best c) ≡ true → c .halvings < 21 → j + 4 ≤ room
-        → Quartered piece halves l′ j c n l″ → Searching l₀ m₀ best₀ l″ (j + 4) (n + 4) (betterOf best c)
-    search-split l″ e k g h =
-        let w = lighter in
-        let a = s .light in
-        let v = nodes-split (c .halvings) k in
-        let x = h .weight in
-        record {
-          long = h .long ∙ p .long ∙ s .long;
-          queue = h .queue;
-          light = omega arith;
-          left = λ q w. left-split l″ e k g h (s .left q w)
-        }
+      pub search-split :
+          (l″ : List Float) → splitsAt halves precision c (betterOf best c) ≡ true → c .halvings < 21 → j + 4 ≤ room
+          → Quartered piece halves l′ j c n l″ → Searching l₀ m₀ best₀ l″ (j + 4) (n + 4) (betterOf best c)
+      search-split l″ e k g h =
+          let w = lighter in
+          let a = s .light in
+          let v = nodes-split (c .halvings) k in
+          let x = h .weight in
+          record {
+            long = h .long ∙ p .long ∙ s .long;
+            queue = h .queue;
+            light = omega arith;
+            left = λ q w. left-split l″ e k g h (s .left q w);
+          }
 
-    pub search-full :
-        splitsAt halves precision c (betterOf best c) ≡ true → room < j + 4 → (q : List Cell) → Match halves l₀ m₀ q m₀
-        → turns piece halves (sumOver heft q) precision room q best₀ m₀ ≡ Full
-    search-full e g q w = left-full e g (s .left q w)
+      pub search-full :
+          splitsAt halves precision c (betterOf best c) ≡ true → room < j + 4 → (q : List Cell) → Match halves l₀ m₀ q m₀
+          → turns piece halves (sumOver heft q) precision room q best₀ m₀ ≡ Full
+      search-full e g q w = left-full e g (s .left q w)
 
-    -- four more entries have numbers
-    pub search-room : n + 4 ≤ 4611686018427387904
-    search-room =
-        let w = lighter in
-        let a = s .light in
-        let z = one in
-        omega arith
+      -- four more entries have numbers
+      pub search-room : n + 4 ≤ 4611686018427387904
+      search-room =
+          let w = lighter in
+          let a = s .light in
+          let z = one in
+          omega arith
 
   pub search-done :
       (l₀ : List Float) (m₀ : ℕ) (best₀ : Best) (l : List Float) (m n : ℕ) (best : Best) → Searching l₀ m₀ best₀ l m n best → m ≡ 0 → (q : List Cell)

@@ -36,7 +36,7 @@ entered piece halves l m x y k n c l′ e p =
       long = p .long;
       queue = p .queue;
       weight = p .bag heft ∙ ap (λ (a : Cell). total heft (cellAt l) m + heft a) e;
-      match = λ q w. subst (λ (a : Cell). Match halves l′ (m + 1) (enter halves a q) (n + 1)) e (match-push halves l m q n w c l′ p (ap (λ (a : Cell). a .entry) e))
+      match = λ q w. subst (λ (a : Cell). Match halves l′ (m + 1) (enter halves a q) (n + 1)) e (match-push halves l m q n w c l′ p (ap (λ (a : Cell). a .entry) e));
     }
 
 -- what `push_four` does
@@ -126,7 +126,7 @@ quartered piece halves l m c n nh l₁ l₂ l₃ l₄ h a b d e =
       long = e .long ∙ d .long ∙ b .long ∙ a .long;
       queue = subst (λ (k : ℕ). Queue halves l₄ k) places (e .queue);
       weight = subst (λ (k : ℕ). total heft (cellAt l₄) k ≡ total heft (cellAt l) m + 4 * nodes (21 - (c .halvings + 1))) places (omega (arith, a .weight, b .weight, d .weight, e .weight));
-      match = λ q w. rw (← h) (subst (λ (k : ℕ). Match halves l₄ k (quarters q) (n + 4)) places (upTo q (n + 3 + 1) (n + 4) (omega arith) (fourth q w)))
+      match = λ q w. rw (← h) (subst (λ (k : ℕ). Match halves l₄ k (quarters q) (n + 4)) places (upTo q (n + 3 + 1) (n + 4) (omega arith) (fourth q w)));
     }
   where
     places : m + 1 + 1 + 1 + 1 ≡ m + 4

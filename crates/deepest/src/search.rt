@@ -9,13 +9,13 @@ ghost use Rattle.deepest.specs.Cells.{cellAt};
 ghost use Rattle.deepest.specs.Queue.{Queue, total};
 ghost use Rattle.deepest.specs.Turns.{Entered, Quartered, Explored};
 ghost use Rattle.deepest.specs.Deepest.{heft, makeCell, betterOf, splitsAt, answerOf, nextCorner, firstCorner, enterFour, gridFrom, searchIn, deepestPoint, deeperOf};
-use regions::clearance::signed_clearance;
 use crate::queue::Cell;
 use crate::queue::bound;
 use crate::queue::half;
 use crate::queue::pop;
 use crate::queue::push;
 use glyphs::bounds::Extents;
+use regions::clearance::signed_clearance;
 
 // A deepest point with its clearance, or none; or more cells waited than there is room for.
 pub enum Deepest {
@@ -46,14 +46,7 @@ fn halves_of(h0: f64) -> [f64; 22]
     halves
 }
 
-fn make_cell(
-    x: f64,
-    y: f64,
-    halvings: u64,
-    entry: u64,
-    sizes: &[usize],
-    coords: &[f64],
-) -> Cell
+fn make_cell(x: f64, y: f64, halvings: u64, entry: u64, sizes: &[usize], coords: &[f64]) -> Cell
     requires { ⌜ (0 < length (now sizes)) × (sum (now sizes) * 2 ≤ length (now coords)) ⌝ }
     ensures { λ r. ⌜ r ≡ makeCell (pieceOf (now (sizes .entry)) (now (coords .entry))) x y halvings entry ⌝ }
 {
@@ -138,10 +131,50 @@ fn push_four(
     let m1 = m + 1;
     let m2 = m1 + 1;
     let m3 = m2 + 1;
-    enter_cell(&mut cells[..], m, halves, x - nh, y - nh, k, entry, sizes, coords);
-    enter_cell(&mut cells[..], m1, halves, x + nh, y - nh, k, entry + 1, sizes, coords);
-    enter_cell(&mut cells[..], m2, halves, x - nh, y + nh, k, entry + 2, sizes, coords);
-    enter_cell(&mut cells[..], m3, halves, x + nh, y + nh, k, entry + 3, sizes, coords);
+    enter_cell(
+        &mut cells[..],
+        m,
+        halves,
+        x - nh,
+        y - nh,
+        k,
+        entry,
+        sizes,
+        coords,
+    );
+    enter_cell(
+        &mut cells[..],
+        m1,
+        halves,
+        x + nh,
+        y - nh,
+        k,
+        entry + 1,
+        sizes,
+        coords,
+    );
+    enter_cell(
+        &mut cells[..],
+        m2,
+        halves,
+        x - nh,
+        y + nh,
+        k,
+        entry + 2,
+        sizes,
+        coords,
+    );
+    enter_cell(
+        &mut cells[..],
+        m3,
+        halves,
+        x + nh,
+        y + nh,
+        k,
+        entry + 3,
+        sizes,
+        coords,
+    );
 }
 
 // The search, with `start` cells waiting.
@@ -214,13 +247,7 @@ fn deeper(a: Deepest, b: Deepest) -> Deepest
         Deepest::Found(_, _, best) => match b {
             Deepest::Full => Deepest::Full,
             Deepest::Nothing => a,
-            Deepest::Found(_, _, d) => {
-                if d > best {
-                    b
-                } else {
-                    a
-                }
-            }
+            Deepest::Found(_, _, d) => { if d > best { b } else { a } }
         },
     }
 }

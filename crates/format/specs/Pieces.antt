@@ -3,15 +3,10 @@
 use Prim.Native.Nat.{ℕ, _+_, _*_}
 use mathlib.Core.List.{List, [], _∷_}
 use lib.Ieee.{Float}
+use Rattle.glyphs.specs.Points.{Ring}
+use Rattle.regions.specs.Ring.{Piece}
 use Rattle.format.specs.Rows.{_orElse_, faults, past, each, flat}
 use Rattle.format.specs.Numbers.{u8, u16, u8In, u16In, coordIn, coordAt, nextCoord}
-
--- a ring is the list of its coordinates, x and y in turn; a piece is the list of its rings, the outer ring first
-abbrev pub Ring : Type 0
-Ring = List Float
-
-abbrev pub Piece : Type 0
-Piece = List Ring
 
 -- ---- a ring: vertex count u16 0..256, vertices as i32 pairs
 

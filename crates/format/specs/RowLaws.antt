@@ -3,14 +3,16 @@
 use Prim.Native.Nat.{ℕ, zero, suc, _+_, _-_, _<_, _≤_}
 use mathlib.Core.Path.{_≡_, refl, _∙_, sym, ap}
 use mathlib.Core.Bool.{Bool, true, false, not}
-use mathlib.Core.List.{List, [], _∷_, _++_}
+use mathlib.Core.List.{List, [], _∷_, _++_, map, flatten, flatMap}
 use native.Mathlib.Omega.{arith}
+use native.Mathlib.Nat.{zero-add}
 use native.Mathlib.Numerals.{add-one}
 use lib.ListN.{length, set, length-append}
-use lib.Seq.{sets}
+use lib.Seq.{sets, sets-eq}
 use lib.Dec.{leb, eqb}
 use borrow.Author.Needs.{needs}
 use borrow.Author.Tests.{le-leb, lt-leb, eq-eqb, ne-eqb}
+use Rattle.laws.specs.Lists.{written}
 use Rattle.format.specs.Rows.{_unless_, _orElse_, faults, past, each, flat}
 
 -- ---- what passes
@@ -34,6 +36,11 @@ sets-append l k [] ys =
 sets-append l k (x ∷ xs) ys =
     let e : k + suc (length xs) ≡ suc k + length xs = omega arith in
     rw e (sets-append (set l k x) (suc k) xs ys)
+
+-- stores from the front on
+pub sets-written : {A : Type 0} (xs l : List A) → length xs ≤ length l → sets l 0 xs ≡ written xs l
+unfolding written
+sets-written xs l h = sets-eq xs l 0 (omega arith) ∙ rw zero-add
 
 -- ---- which row answers
 
@@ -173,3 +180,21 @@ module _ {S : Type 0} (next : S → S) where
     unfolding flat
     put-end out k zero at h e = sym e
     put-end out k (suc n) at h e = absurd (omega arith)
+
+-- ---- the flat list is the list of what they are, end to end
+
+pub flat-flatten : {S A : Type 0} (next : S → S) (view : S → List A) (n : ℕ) (at : S) → flat view next n at ≡ flatten (each view next n at)
+unfolding flat each flatten
+flat-flatten next view zero at = refl
+flat-flatten next view (suc n) at = rw (flat-flatten next view n (next at))
+
+module _ {S A B : Type 0} (next : S → S) (view : S → A) where
+  pub each-map : (f : A → B) (g : S → B) → ((z : S) → g z ≡ f (view z)) → (n : ℕ) (at : S) → each g next n at ≡ map f (each view next n at)
+  unfolding each
+  each-map f g h zero at = refl
+  each-map f g h (suc n) at = rw (h at, each-map f g h n (next at))
+
+  pub flat-each : (f : A → List B) (g : S → List B) → ((z : S) → g z ≡ f (view z)) → (n : ℕ) (at : S) → flat g next n at ≡ flatMap f (each view next n at)
+  unfolding flat each flatMap
+  flat-each f g h zero at = refl
+  flat-each f g h (suc n) at = rw (h at, flat-each f g h n (next at))

@@ -12,10 +12,10 @@ use Rattle.glyphs.specs.declared.options.ObstaclePolicy.{ObstaclePolicy}
 use Rattle.discs.specs.declared.options.Radius.{Radius}
 use Rattle.discs.specs.declared.options.BoundaryGap.{BoundaryGap}
 use Rattle.discs.specs.declared.options.GlyphOptions.{GlyphOptions}
-use Rattle.format.specs.Numbers.{u16, u32In}
-use Rattle.format.specs.RowLaws.{both, passed}
-use Rattle.format.specs.NumberLaws.{item-cut, item-passed}
-use Rattle.job.specs.Head.{numberAfter, measuresFault, headFault}
+use Rattle.format.specs.Numbers.{u16, u32In, coordAt, nextCoord}
+use Rattle.format.specs.RowLaws.{both, passed, length-each}
+use Rattle.format.specs.NumberLaws.{item-cut}
+use Rattle.job.specs.Head.{obstaclesAt, numberAfter, measuresFault, headFault, obstacles}
 
 -- ---- the number after a kind
 
@@ -42,6 +42,10 @@ head-whole s e =
     let m = both _ _ (both _ _ e .1) .1 in
     let seed = both _ _ (both _ _ (both _ _ (both _ _ (both _ _ m .1) .1) .1) .1) .1 in
     leb-true 37 (length s) (passed 6 _ (omega arith) seed)
+
+pub length-obstacles : (s : List ℕ) → length (obstacles s) ≡ 4 * u16 s obstaclesAt
+unfolding obstacles
+length-obstacles s = length-each nextCoord (coordAt s) (4 * u16 s obstaclesAt) (obstaclesAt + 2)
 
 -- ---- options are equal where their parts are
 

@@ -5,3 +5,4 @@ pub mod Steps
 pub mod Sheet
 pub mod HeadLaws
 pub mod ZoneLaws
+pub mod JobLaws

@@ -7,7 +7,8 @@ use lib.Dec.{ltb, leb}
 use lib.Ieee.{Float}
 use Rattle.format.specs.Rows.{_unless_, _orElse_, faults, past, each, flat}
 use Rattle.format.specs.Numbers.{u8, u16, u8In, u16In, whole, within}
-use Rattle.format.specs.Pieces.{Piece, piece, pieceFault, pieceEnd, pieceCoords, ringSizes}
+use Rattle.regions.specs.Ring.{Piece}
+use Rattle.format.specs.Pieces.{piece, pieceFault, pieceEnd, pieceCoords, ringSizes}
 use Rattle.job.specs.declared.zones.Row.{Row}
 
 -- ---- a key: key length u8 1..32, key bytes A-Z, a-z, 0-9; above the last key in byte order

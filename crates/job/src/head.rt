@@ -183,7 +183,7 @@ pub fn options_of(s: &[u8]) -> GlyphOptions
 }
 
 // Row 8: the obstacles, put into `out`: centre x, centre y, width and height of each.
-pub fn obstacles(s: &[u8], out: &mut [f64]) -> u8
+pub fn read_obstacles(s: &[u8], out: &mut [f64]) -> u8
     requires { ⌜ 256 ≤ length (now out) ⌝ }
     ensures { λ r. ⌜ ObstaclesRead (now (s .entry)) (now (out .entry)) r (now (out .exit)) ⌝ }
 {

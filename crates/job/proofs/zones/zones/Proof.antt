@@ -158,6 +158,8 @@ returns-2 c =
               counted = put-end (zoneEnd s) (zoneRings s) (l .counts) (l .to .pieces) (l .left) at m (l .inv .16);
             };
         row = put-end (zoneEnd s) (zoneRow s) (l .rows) (l .before .zones * 4) (l .left) at m (l .inv .17);
+        fewRings = omega (arith, l .inv .2);
+        fewPieces = omega (arith, l .inv .3);
       };
     }
 

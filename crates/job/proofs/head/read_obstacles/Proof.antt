@@ -1,16 +1,17 @@
--- `obstacles` reads the obstacles.
+-- `read_obstacles` reads the obstacles.
 -- Rests on what `item`, `uint` and `coords` ensure.
-use mathlib.Core.Path.{_≡_}
+use mathlib.Core.Path.{_≡_, sym, _∙_}
 use native.Mathlib.Omega.{arith}
 use Prim.Native.Nat.{_*_}
 use Rattle.format.specs.Rows.{faults}
 use Rattle.format.specs.Numbers.{u16, coordIn, nextCoord}
-use Rattle.format.specs.RowLaws.{rows}
+use Rattle.format.specs.RowLaws.{rows, sets-written}
 use Rattle.format.specs.NumberLaws.{item-passed}
+use Rattle.job.specs.HeadLaws.{length-obstacles}
 use Rattle.job.specs.Head.{obstaclesFault, obstaclesEnd, obstacles}
 use borrow.Author.Needs.{needs}
-use Rattle.job.proofs.head.obstacles.Statement.{statement}
-use Rattle.job.proofs.head.obstacles.Tie as tie
+use Rattle.job.proofs.head.read_obstacles.Statement.{statement}
+use Rattle.job.proofs.head.read_obstacles.Tie as tie
 
 item-requires : tie.Need-item-requires
 item-requires c κs = search needs
@@ -43,10 +44,10 @@ returns-2 c =
       fault = search rows;
       read = λ e.
           let r = c .before .before .coords .ensures .read e in
-          record { inside = omega arith; put = cc (r .put) };
+          record { inside = omega arith; put = cc (r .put, sets-written (obstacles s) (c .before .before .before .before .before .before .before .before .before .args .out .now) (omega (arith, length-obstacles s, item-passed 2 s 37 0 64 8 (omega arith) (sym (c .before .before .before .before .before .before .item .ensures) ∙ c .before .before .before .before .before .if1 .left) .to))) };
     }
 
-pub obstacles-spec : {M : Type 1} → statement M
-obstacles-spec =
+pub read-obstacles-spec : {M : Type 1} → statement M
+read-obstacles-spec =
     tie.close
     (tie.spec item-requires returns uint-requires mul-coords coords-requires same-length returns-2)
