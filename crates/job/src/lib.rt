@@ -1,0 +1,5 @@
+// The reader of a job.
+pub mod head;
+pub mod keys;
+pub mod read;
+pub mod zones;
