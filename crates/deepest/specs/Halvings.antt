@@ -23,11 +23,11 @@ use Rattle.deepest.specs.declared.search.Best.{Best}
 use Rattle.deepest.specs.Order.{√2ᶠ, halvesFrom, halfAt, boundOf}
 use Rattle.deepest.specs.declared.queue.Cell.{Cell}
 
-two-num : Num 2ᶠ
+pub two-num : Num 2ᶠ
 unfolding ofBits fits
 two-num = record { fit = tt; fine = tt }
 
-two-mag : mag 2ᶠ ≡ 2 * U
+pub two-mag : mag 2ᶠ ≡ 2 * U
 unfolding ofBits mag U
 two-mag = refl
 

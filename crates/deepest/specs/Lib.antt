@@ -10,3 +10,4 @@ pub mod Search
 pub mod Fuel
 pub mod Halvings
 pub mod Plant
+pub mod Unlimited

@@ -165,7 +165,7 @@ array-has c A (suc n) k l e =
     ]
 
 -- ---- in the list: the cells, each of which leaves before those after it
-abbrev Each : (Cell → Type 0) → List Cell → Type 0
+abbrev pub Each : (Cell → Type 0) → List Cell → Type 0
 Each P [] = Unit {0}
 Each P (c ∷ cs) = P c × Each P cs
 
@@ -196,7 +196,7 @@ module _ (halves : List Float) where
   each-map P Q f [] a = tt
   each-map P Q f (c ∷ cs) a = (f c (a .0), each-map P Q f cs (a .1))
 
-  each-enter : (P : Cell → Type 0) (c : Cell) (q : List Cell) → P c → Each P q → Each P (enter halves c q)
+  pub each-enter : (P : Cell → Type 0) (c : Cell) (q : List Cell) → P c → Each P q → Each P (enter halves c q)
   unfolding enter
   each-enter P c [] p a = (p, tt)
   each-enter P c (e ∷ es) p a = pick (leaves halves c e) (each-enter P c es p (a .1))
