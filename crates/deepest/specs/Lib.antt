@@ -11,3 +11,4 @@ pub mod Fuel
 pub mod Halvings
 pub mod Plant
 pub mod Unlimited
+pub mod Whole

@@ -23,8 +23,8 @@ use Rattle.regions.specs.Clearance.{signedClearance}
 use Rattle.regions.specs.Sizes.{Bounded, clearance-sized}
 use Rattle.deepest.specs.Order.{halvesFrom, halfAt, boundOf}
 use Rattle.deepest.specs.Match.{Each, each-enter}
-use Rattle.deepest.specs.Deepest.{enter, betterOf, answerOf, splitsAt, makeCell, enterFour, turns}
-use Rattle.deepest.specs.Fuel.{split-few}
+use Rattle.deepest.specs.Deepest.{heft, sumOver, betterOf, answerOf, splitsAt, makeCell, enterFour, turns}
+use Rattle.deepest.specs.Fuel.{split-few, fuel-enough}
 use Rattle.deepest.specs.Halvings.{1/1024ᶠ, not-split, two-num, two-mag}
 use Rattle.deepest.specs.declared.queue.Cell.{Cell}
 use Rattle.deepest.specs.declared.search.Best.{Best}
@@ -53,7 +53,7 @@ chosen true false full a a′ b b′ p q = p refl
 chosen false r full a a′ b b′ p q = q
 
 -- ---- half widths keep a size
-half-sized : (x : Float) (k : ℕ) → k < 4096 → Sized x (k * 2) → Sized (x /ᶠ 2ᶠ) k
+pub half-sized : (x : Float) (k : ℕ) → k < 4096 → Sized x (k * 2) → Sized (x /ᶠ 2ᶠ) k
 half-sized x k l s =
     let u = U-pos in
     let z : 0 < mag 2ᶠ = rw two-mag (omega arith) in
@@ -148,3 +148,13 @@ module _ (ring : Ring) (holes : List Ring) (b : Bounded ring) (h0 : Float) (hh :
         → turns (ring ∷ holes) (halvesFrom h0 22) f precision room q best n ≡ turnsFree (ring ∷ holes) (halvesFrom h0 22) f precision room q best n
     unlimited zero q best n a s = unfold turns turnsFree in refl
     unlimited (suc f) q best n a s = step f (unlimited f) q best n a s
+
+    -- and it ends: more turns change nothing
+    pub free-ends :
+        (f : ℕ) (q : List Cell) (best : Best) (n : ℕ) → Each Measured q → Sized (best .d) 26067 → sumOver heft q ≤ f
+        → turnsFree (ring ∷ holes) (halvesFrom h0 22) f precision room q best n
+        ≡ turnsFree (ring ∷ holes) (halvesFrom h0 22) (sumOver heft q) precision room q best n
+    free-ends f q best n a s h =
+        sym (unlimited f q best n a s)
+        ∙ fuel-enough (ring ∷ holes) (halvesFrom h0 22) precision room f q best n h
+        ∙ unlimited (sumOver heft q) q best n a s
