@@ -1,12 +1,11 @@
 -- The waiting cells of the slice are those of the definition's list: equal as bags, so that the heap's first is the list's first.
 -- Rests on the laws of the order of leaving.
-use Prim.Native.Nat.{ℕ, zero, suc, _+_, _-_, _*_, _<_, _≤_, zero-le}
+use Prim.Native.Nat.{ℕ, zero, suc, _+_, _-_, _<_, zero-le}
 use mathlib.Core.Path.{_≡_, refl, sym, ap, _∙_, subst}
 use mathlib.Core.Logic.{_⊎_, inl, inr}
 use mathlib.Core.Bool.{Bool, true, false, cond, _&&_, Bool·beq, true≢false}
 use mathlib.Core.List.{List, [], _∷_}
 use native.Mathlib.Omega.{arith}
-use native.Mathlib.Numerals.{add-one}
 use native.Mathlib.Nat.{le-of-suc-le-suc, eq-or-lt-of-le}
 use lib.Arith.{lt-of-le-ne}
 use borrow.Author.Tests.{eqb-true, eq-eqb}
@@ -16,7 +15,7 @@ use lib.ListN.{length}
 use lib.Ieee.{Float, nan, inf, fin}
 use Rattle.deepest.specs.Order.{leaves, leaves-chain, leaves-asym, leaves-tie}
 use Rattle.deepest.specs.Cells.{cellAt}
-use Rattle.deepest.specs.Heap.{Heaped, root-first, same-or-not, itself}
+use Rattle.deepest.specs.Heap.{root-first, same-or-not, itself}
 use Rattle.deepest.specs.Queue.{total, Queue, Pushed, Popped}
 use Rattle.deepest.specs.Deepest.{enter, sumOver}
 use Rattle.deepest.specs.declared.queue.Cell.{Cell}

@@ -1,20 +1,20 @@
 -- The search without a limit on halvings answers the same as the search with it, for a piece whose outer ring lies within 1,024.
 -- Rests on the law that a cell is never split after 21 halvings, and on the sizes of places and clearances.
 use Prim.Native.Nat.{ℕ, zero, suc, _+_, _-_, _*_, _<_, _≤_}
-use mathlib.Core.Path.{_≡_, refl, sym, ap, _∙_, subst}
-use mathlib.Core.Logic.{_⊎_, inl, inr}
+use mathlib.Core.Path.{_≡_, refl, sym, _∙_}
+use mathlib.Core.Logic.{inl, inr}
 use mathlib.Core.Bool.{Bool, true, false, not, cond}
 use mathlib.Core.List.{List, [], _∷_}
 use native.Mathlib.Nat.{eq-or-lt-of-le, le-of-lt, mul-le-mul-right}
 use native.Mathlib.Numerals.{add-one}
 use native.Mathlib.Omega.{arith}
 use borrow.Author.Tests.{lt-ltb, le-ltb}
-use lib.Dec.{T, ltb, lit<, lit≤}
+use lib.Dec.{T, ltb, lit<}
 use lib.ListN.{length}
-use lib.Ieee.{Float, nan}
+use lib.Ieee.{Float}
 use lib.Ieee.Bits.{is-true}
-use Rattle.float.specs.Ops.{_+ᶠ_, _-ᶠ_, _/ᶠ_, _≤ᶠ_, _>ᶠ_, 2ᶠ}
-use Rattle.rounding.specs.Value.{U, U-pos, E, mag, Num, digits-whole}
+use Rattle.float.specs.Ops.{_-ᶠ_, _/ᶠ_, _≤ᶠ_, _>ᶠ_, 2ᶠ}
+use Rattle.rounding.specs.Value.{U, U-pos, mag, Num, digits-whole}
 use Rattle.rounding.specs.Bounds.{Sized, wider, add-sized, sub-sized}
 use Rattle.rounding.specs.Errors.{div-law}
 use Rattle.glyphs.specs.Points.{Ring}

@@ -1,8 +1,8 @@
 -- The limit of 21 halvings never cuts a search short: the deepest point is that of the source's search, for every piece whose outer ring lies within 1,024 and every precision of at least 1/1024.
 -- Rests on the law of its turns, and on the sizes of the first cells.
-use Prim.Native.Nat.{ℕ, zero, suc, _+_, _-_, _*_, _<_, _≤_}
-use mathlib.Core.Path.{_≡_, refl, sym, ap, _∙_, subst}
-use mathlib.Core.Bool.{Bool, true, false, not, cond, _||_, _&&_}
+use Prim.Native.Nat.{ℕ, zero, suc, _+_, _-_, _<_, _≤_}
+use mathlib.Core.Path.{_≡_, refl}
+use mathlib.Core.Bool.{Bool, true, false, cond, _||_}
 use mathlib.Core.List.{List, [], _∷_}
 use native.Mathlib.Omega.{arith}
 use lib.Dec.{T, ltb, lit<, lit≤}
@@ -15,7 +15,7 @@ use Rattle.float.specs.Ops.{_+ᶠ_, _-ᶠ_, _/ᶠ_, _<ᶠ_, _≤ᶠ_, 0ᶠ, 2�
 use Rattle.float.specs.Order.{min, max}
 use Rattle.float.specs.Laws.Compare.{lt-le}
 use Rattle.rounding.specs.Signed.{nat, signed, _⊕_, _≼_, _≺_}
-use Rattle.rounding.specs.Value.{U, E, sgn, mag, val, Num, digits}
+use Rattle.rounding.specs.Value.{sgn, mag, val, Num, digits}
 use Rattle.rounding.specs.Bounds.{Sized, wider, add-sized, sub-sized, ranged}
 use Rattle.rounding.specs.Errors.{add-law}
 use Rattle.rounding.specs.Comparison.{≼→le, ¬le→≺}
@@ -24,7 +24,6 @@ use Rattle.glyphs.specs.Points.{Ring, vertices, xAt, yAt}
 use Rattle.glyphs.specs.Bounds.{extent, -∞, extentsOf}
 use Rattle.glyphs.specs.declared.bounds.Extents.{Extents}
 use Rattle.regions.specs.Ring.{Piece, outer}
-use Rattle.regions.specs.Clearance.{signedClearance}
 use Rattle.regions.specs.Sizes.{Bounded, clearance-sized}
 use Rattle.deepest.specs.Order.{halvesFrom, halfAt}
 use Rattle.deepest.specs.Match.{Each, each-enter}
@@ -35,7 +34,7 @@ use Rattle.deepest.specs.declared.queue.Cell.{Cell}
 use Rattle.deepest.specs.declared.search.Best.{Best}
 use Rattle.deepest.specs.declared.search.Corner.{Corner}
 use Rattle.deepest.specs.declared.search.Deepest.{Deepest}
-use Rattle.deepest.specs.declared.search.Deepest.the-variants.{Found, Nothing, Full}
+use Rattle.deepest.specs.declared.search.Deepest.the-variants.{Nothing, Full}
 
 -- ---- the source's search: no limit on halvings
 unfoldable pub finishFree : Piece → List Float → Float → ℕ → Best → Grid → Deepest
