@@ -1,2 +1,2 @@
-// discs.rs: the disc packer.
+// discs.rs: regions over their pieces, the radius, and all marks.
 pub mod options;

@@ -1,11 +1,9 @@
 pub mod Apportion
 pub mod Bounds
-pub mod Fair
 pub mod Halton
-pub mod HandOut
 pub mod Hash
 pub mod Points
 pub mod Quotas
 pub mod Rect
+pub mod Spots
 pub mod Stream
-pub mod Unshared

@@ -1,5 +1,5 @@
-// glyphs.rs, point.rs and rectangle.rs, and the random stream: options, hash, stream, radical inverse and quotas;
-// points, obstacles, bounds and pack modes.
+// glyphs.rs, point.rs and rectangle.rs: options, points, obstacles and bounds; hash, stream, radical inverse and
+// quotas.
 pub mod bounds;
 pub mod halton;
 pub mod hash;
@@ -8,4 +8,5 @@ pub mod options;
 pub mod points;
 pub mod quotas;
 pub mod rect;
+pub mod spots;
 pub mod stream;

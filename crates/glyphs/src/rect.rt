@@ -57,7 +57,7 @@ pub fn clear_of_obstacles(px: f64, py: f64, obstacles: &[f64], clearance: f64) -
     true
 }
 
-fn finite(x: f64) -> bool
+pub fn finite(x: f64) -> bool
     ensures { λ r. ⌜ r ≡ isFinite x ⌝ }
 {
     float::abs(x) < 1.0 / 0.0

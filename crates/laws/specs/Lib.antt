@@ -1,6 +1,8 @@
 pub mod Any
+pub mod Blocks
 pub mod Casts
 pub mod Choice
+pub mod Every
 pub mod Folds
 pub mod Lists
 pub mod Orders

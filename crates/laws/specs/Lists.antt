@@ -8,7 +8,7 @@ use native.Mathlib.Omega.{arith}
 use native.Mathlib.Nat.{eq-or-lt-of-le}
 use native.Mathlib.Numerals.{add-one}
 use lib.ListN.{length, getD, drop, set, length-append, length-drop, List·getD-append}
-use lib.Seq.{drop-cons, set-at, getD-at}
+use lib.Seq.{drop-cons, set-at, getD-at, ext-getD}
 
 -- 0..n
 unfoldable pub upTo : ℕ → List ℕ
@@ -29,6 +29,14 @@ unfolding upTo
 length-upTo zero = refl
 length-upTo (suc n) = simp length-append (omega (arith, length-upTo n))
 
+pub upTo-at : (n i d : ℕ) → i < n → getD (upTo n) i d ≡ i
+unfolding upTo
+upTo-at zero i d h = absurd (omega arith)
+upTo-at (suc n) i d h =
+    ⊎-elim (λ (e : i ≡ n). rw e (getD-at (upTo n) n [] d n (length-upTo n)))
+    (λ (l : i < n). List·getD-append (upTo n) (n ∷ []) d i (rw length-upTo l) ∙ upTo-at n i d l)
+    (eq-or-lt-of-le (omega arith))
+
 module _ {A : Type 0} where
   pub length-tabulate : (f : ℕ → A) (n : ℕ) → length (tabulate f n) ≡ n
   unfolding tabulate
@@ -47,6 +55,12 @@ module _ {A : Type 0} where
       ⊎-elim (λ (e : i ≡ n). rw e (getD-at (tabulate f n) (f n) [] d n (length-tabulate f n)))
       (λ (l : i < n). List·getD-append (tabulate f n) (f n ∷ []) d i (rw length-tabulate l) ∙ tabulate-at f n i d l)
       (eq-or-lt-of-le (omega arith))
+
+  -- a list is what a rule gives at each of its indices
+  pub tabulated : (f : ℕ → A) (l : List A) (d : A) → ((i : ℕ) → i < length l → f i ≡ getD l i d) → tabulate f (length l) ≡ l
+  tabulated f l d e =
+      ext-getD d (tabulate f (length l)) l (length-tabulate f (length l))
+      (λ i h. let k : i < length l = rw length-tabulate at h in tabulate-at f (length l) i d k ∙ e i k)
 
   pub written-next :
       (xs l : List A) (n : ℕ) (v : A) → length xs ≡ n → n < length l
@@ -79,3 +93,8 @@ pub getD-map : {A B : Type 0} (f : A → B) (l : List A) (i : ℕ) (d : A) (e : 
 getD-map f [] i d e h = absurd (omega arith)
 getD-map f (x ∷ xs) zero d e h = refl
 getD-map f (x ∷ xs) (suc i) d e h = getD-map f xs i d e (omega arith)
+
+pub map-set : {A B : Type 0} (f : A → B) (l : List A) (i : ℕ) (x : A) → map f (set l i x) ≡ set (map f l) i (f x)
+map-set f [] i x = refl
+map-set f (y ∷ l) zero x = refl
+map-set f (y ∷ l) (suc i) x = rw (map-set f l i x)

@@ -1,6 +1,7 @@
 -- Comparisons that order their values in a line: of numbers, of what a function makes of a value, turned round, and one after another.
 -- Rests on the kit's clauses of `compare`.
 use mathlib.Core.Path.{_≡_, refl, sym, ap, _∙_, subst}
+use mathlib.Core.Bool.{Bool, true, false}
 use mathlib.Core.Logic.{_⊎_, inl, inr}
 use Prim.Native.Nat.{ℕ, zero, suc, _≤_, _<_, compare, Ordering, Ordering·lt, Ordering·eq, Ordering·gt, compare·zero-suc, compare·suc-zero, compare·suc-suc}
 use native.Mathlib.Omega.{arith}
@@ -17,6 +18,12 @@ abbrev pub reverse : Ordering → Ordering
 reverse Ordering·lt = Ordering·gt
 reverse Ordering·eq = Ordering·eq
 reverse Ordering·gt = Ordering·lt
+
+-- `Ordering::is_lt`
+abbrev pub isLt : Ordering → Bool
+isLt Ordering·lt = true
+isLt Ordering·eq = false
+isLt Ordering·gt = false
 
 pub record Linear {A : Type 0} (cmp : A → A → Ordering) : Type 0 where
   pub turned : (a b : A) → cmp b a ≡ reverse (cmp a b)

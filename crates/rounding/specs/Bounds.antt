@@ -3,7 +3,7 @@
 use mathlib.Core.Path.{sym, subst}
 use mathlib.Core.Bool.{Bool, true, false}
 use Prim.Native.Nat.{ℕ, zero, suc, _+_, _*_, _≤_, _<_}
-use native.Mathlib.Nat.{le-trans, le-of-lt, mul-le-mul, mul-le-mul-left, mul-le-mul-right}
+use native.Mathlib.Nat.{lt-of-lt-of-le, mul-pos, le-trans, le-of-lt, mul-le-mul, mul-le-mul-left, mul-le-mul-right}
 use native.Mathlib.Omega.{arith}
 use lib.Dec.{T}
 use lib.Ieee.{Float, binary64, neg, fits}
@@ -67,6 +67,14 @@ module _ {x y : Float} {a b : ℕ} (p : Sized x a) (q : Sized y b) where
       above : (m c u : ℕ) → 0 < u → u ≤ m * c → 0 < m
       above zero c u u0 h = absurd (omega (arith, u0, h))
       above (suc m) c u u0 h = omega arith
+
+-- y is b at least
+pub div-sized-by : {x y : Float} {c : ℕ} (a b : ℕ) → Sized x (a * b) → Sized y c → 0 < b → b * U ≤ mag y → a < E → Sized (x /ᶠ y) a
+div-sized-by {x} {y} a b p q b0 l h =
+    let m : mag x * U ≤ a * U * mag y = omega (arith, mul-le-mul-right U (p .size), mul-le-mul-left (a * U) l) in
+    let f : mag x ≤ mag y * B = omega (arith, p .size, mul-le-mul-left a l, mul-le-mul-right (mag y) (le-of-lt h)) in
+    let s = div-law x y (p .num) (q .num) (lt-of-lt-of-le (mul-pos b0 U-pos) l) f in
+    record { num = s .num; size = s .most (a * U) (digits-whole a h) m }
 
 -- what a test of a range admits
 pub ranged : {x lo hi : Float} {k : ℕ} → T (fits binary64 x) → Sized lo k → Sized hi k → T (lo ≤ᶠ x) → T (x ≤ᶠ hi) → Sized x k

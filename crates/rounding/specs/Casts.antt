@@ -12,7 +12,8 @@ use Rattle.float.specs.Whole.{floor, ceil, as-i64, as-usize}
 use Rattle.float.specs.Laws.Whole.{signed-value, unsigned-value}
 use Rattle.rounding.specs.Signed.{Exact, signed, scaled, nat, opp, plain, _⊕_, _≈_, _≼_, _≺_}
 use Rattle.rounding.specs.Value.{U, U-pos, sgn, mag, val, Num, own, neg-num, neg-mag, neg-val}
-use Rattle.rounding.specs.Whole.{int, ones, floor-law}
+use Rattle.rounding.specs.Integers.{int}
+use Rattle.rounding.specs.Whole.{ones, floor-law}
 
 -- 2 ^ 63
 abbrev pub half : ℕ

@@ -6,7 +6,7 @@ use mathlib.Core.Bool.{Bool, true, false}
 use Prim.Native.Nat.{ℕ, _+_, _*_, _≤_, _<_}
 use native.Mathlib.Nat.{le-of-mul-le-mul-right, mul-le-mul-right}
 use native.Mathlib.Omega.{arith}
-use lib.IntN.{ℤ}
+use lib.IntN.{ℤ, sucℤ}
 use lib.Dec.{lit<}
 use lib.Ieee.{Float, unlike}
 use Rattle.float.specs.Ops.{_-ᶠ_, _/ᶠ_}
@@ -16,7 +16,7 @@ use Rattle.rounding.specs.Relative.{Close, close-wider, close-signed}
 use Rattle.rounding.specs.Value.{U, U-pos, E, H, sgn, mag, val}
 use Rattle.rounding.specs.Errors.{sub-of-finite, div-of-finite}
 use Rattle.rounding.specs.Bounds.{Sized, sub-sized, div-sized}
-use Rattle.rounding.specs.Whole.{int}
+use Rattle.rounding.specs.Integers.{int, int-suc, Order, same, below, above, order}
 use Rattle.rounding.specs.Casts.{IsFloor, floor-i64}
 use Rattle.rounding.specs.Distance.{Length, length-above, length-plus, tiny, tiny-is, tiny-big, gap, gap-of, gap-sym, Spaced, spaced-across, spaced-along}
 
@@ -69,12 +69,16 @@ located x min cell X M c =
     let sign : sgn Q ≡ sgn D = w .sign ∙ ap (λ (t : Bool). unlike (sgn D) t) (length-plus c) ∙ unlike-plus (sgn D) in
     record {
       floor = floor-i64 Q 137438953472 (q .num) (q .size) (lit< tt);
-      quot = close-wider E (mag D * U + mag cell * H) (U * (131072 * U + 65536 * H)) (val Q ⊗ nat (mag cell)) (val D ⊗ nat U) (room (mag D) (mag cell) U (d .size) (c .sized .size)) (signed-close E (mag D * U + mag cell * H) (mag Q) (mag cell) (mag D) U (sgn Q) (sgn D) sign (close-signed E (mag cell * H) (mag Q * mag cell) (mag D * U) (sgn Q) (w .near)));
+      quot = close-wider E (mag D * U + mag cell * H) (U * (131072 * U + 65536 * H)) (val Q ⊗ nat (mag cell)) (val D ⊗ nat U) (bound (mag D) (mag cell) U (d .size) (c .sized .size)) (signed-close E (mag D * U + mag cell * H) (mag Q) (mag cell) (mag D) U (sgn Q) (sgn D) sign (close-signed E (mag cell * H) (mag Q * mag cell) (mag D * U) (sgn Q) (w .near)));
       diff = close-wider E (abs (val x ⊖ val min)) (131072 * U) (val D) (val x ⊖ val min) (omega (arith, signed-le (sgn x) (mag x), signed-le (sgn min) (mag min), X .size, M .size)) (r .close);
     }
   where
-    room : (d c u : ℕ) → d ≤ 131072 * u → c ≤ 65536 * u → d * u + c * H ≤ u * (131072 * u + 65536 * H)
-    room d c u a b = omega (arith, mul-le-mul-right u a, mul-le-mul-right H b)
+    bound : (d c u : ℕ) → d ≤ 131072 * u → c ≤ 65536 * u → d * u + c * H ≤ u * (131072 * u + 65536 * H)
+    bound d c u a b = omega (arith, mul-le-mul-right u a, mul-le-mul-right H b)
+
+-- what two quotients and two differences are off by is less than 2 ^ -30
+room : 2 * (131072 * U + 65536 * H) + 2 * (131072 * U) ≤ tiny * E
+room = omega (arith, tiny-is, tiny-big)
 
 pub cells-apart : (x x' min cell : Float) → Sized x 65536 → Sized x' 65536 → Sized min 65536 → Length cell
     → int (cellOf x min cell) ⊕ nat 2 ≼ int (cellOf x' min cell) → val x ⊕ nat (mag cell) ≼ val x' ⊕ nat tiny
@@ -83,7 +87,7 @@ cells-apart x x' min cell X X' M c h =
     let P' = located x' min cell X' M c in
     pure E U (mag cell) (131072 * U + 65536 * H) (131072 * U) tiny (val x) (val x') (val min) (val (x -ᶠ min)) (val (x' -ᶠ min)) (val (ratio x min cell)) (val (ratio x' min cell)) U-pos (lit< tt)
     (step (int (cellOf x min cell)) (int (cellOf x' min cell)) (val (ratio x min cell)) (val (ratio x' min cell)) U h (P .floor .high) (P' .floor .low))
-    (P .quot) (P' .quot) (P .diff) (P' .diff) (omega (arith, tiny-is, tiny-big))
+    (P .quot) (P' .quot) (P .diff) (P' .diff) room
   where
     step : (a b Q Q' : Exact) (u : ℕ) → a ⊕ nat 2 ≼ b → Q ≺ a ⊗ nat u ⊕ nat u → b ⊗ nat u ≼ Q' → Q ⊕ nat u ≼ Q'
     step a b Q Q' u h p q = omega (arith, p, q, mul-le-mul-right u h)
@@ -91,6 +95,20 @@ cells-apart x x' min cell X X' M c h =
 -- the numbers of two cells are two or more apart
 unfoldable pub TwoApart : ℤ → ℤ → Type 0
 TwoApart a b = (int a ⊕ nat 2 ≼ int b) ⊎ (int b ⊕ nat 2 ≼ int a)
+
+-- and so they are where neither is next to the other
+pub two-apart : (a b : ℤ) → (a ≡ b → ⊥) → (b ≡ sucℤ a → ⊥) → (a ≡ sucℤ b → ⊥) → TwoApart a b
+unfolding TwoApart
+two-apart a b n s t = go (order a b) (order b (sucℤ a)) (order a (sucℤ b))
+  where
+    go : Order a b → Order b (sucℤ a) → Order a (sucℤ b) → (int a ⊕ nat 2 ≼ int b) ⊎ (int b ⊕ nat 2 ≼ int a)
+    go (same e) p q = absurd (n e)
+    go (below h) (same e) q = absurd (s e)
+    go (below h) (below g) q = absurd (omega (arith, h, g, int-suc a))
+    go (below h) (above g) q = inl (omega (arith, g, int-suc a))
+    go (above h) p (same e) = absurd (t e)
+    go (above h) p (below g) = absurd (omega (arith, h, g, int-suc b))
+    go (above h) p (above g) = inr (omega (arith, g, int-suc b))
 
 cells-gap : (x x' min cell : Float) → Sized x 65536 → Sized x' 65536 → Sized min 65536 → Length cell → TwoApart (cellOf x min cell) (cellOf x' min cell) → mag cell ≤ gap x x' + tiny
 unfolding TwoApart

@@ -1,16 +1,14 @@
 -- The words of the spacing claim: the exact distance of two points, compared by squares with a spacing less 2 ^ -30.
 -- Rests on `Value`; the laws are over whole numbers.
 use mathlib.Core.Path.{_≡_, refl}
-use mathlib.Core.Logic.{inl, inr}
 use mathlib.Core.Bool.{false}
 use Prim.Native.Nat.{ℕ, zero, suc, _+_, _-_, _*_, _^_, _≤_, _<_}
-use native.Mathlib.Nat.{le-trans, le-of-lt, le-of-suc-le-suc, lt-of-not-le, mul-le-mul, mul-le-mul-right, sub-eq-zero-of-le}
+use native.Mathlib.Nat.{le-trans, le-of-lt, le-of-suc-le-suc, lt-of-not-le, mul-le-mul, mul-le-mul-right}
 use native.Mathlib.Omega.{arith}
 use lib.Dec.{lit≤}
 use lib.Ieee.{Float}
-use Rattle.laws.specs.Orders.{lt-or-le}
 use Rattle.float.specs.Laws.Floor.{root-lt}
-use Rattle.rounding.specs.Signed.{signed-le, nat, apart, _⊕_, _≼_}
+use Rattle.rounding.specs.Signed.{nat, apart, _⊕_, _≼_}
 use Rattle.rounding.specs.Value.{U, U-pos, sgn, mag, val}
 use Rattle.rounding.specs.Bounds.{Sized}
 use Rattle.rounding.specs.Signs.{Nonneg, positive}
@@ -72,18 +70,10 @@ pub gap-sym : (x x' : Float) → gap x x' ≡ gap x' x
 unfolding gap
 gap-sym x x' = omega arith
 
-pub gap-le : (x x' : Float) → gap x x' ≤ mag x + mag x'
-unfolding gap
-gap-le x x' = omega (arith, signed-le (sgn x) (mag x), signed-le (sgn x') (mag x'))
-
 -- x' is d less e beyond x
 pub gap-of : (x x' : Float) (d e : ℕ) → val x ⊕ nat d ≼ val x' ⊕ nat e → d ≤ gap x x' + e
 unfolding gap
 gap-of x x' d e h = omega (arith, h)
-
-pub gap-order : (x x' : Float) → val x ≼ val x' → val x ⊕ nat (gap x x') ≼ val x'
-unfolding gap
-gap-order x x' h = omega (arith, h)
 
 -- ---- whole numbers: a distance at least r, its two parts short by e and f, is still t where t + e + f is r at most
 pub short-by : (t e f a b r X Y : ℕ) → r * r ≤ a * a + b * b → a ≤ X + e → b ≤ Y + f → t + e + f ≤ r → t * t ≤ X * X + Y * Y
@@ -110,11 +100,3 @@ module _ (s x y x' y' : Float) where
   pub spaced-along : mag s ≤ gap y y' + tiny → Spaced s x y x' y'
   unfolding distance²
   spaced-along h = let l : mag s - tiny ≤ gap y y' = omega (arith, h) in record { far = le-trans (mul-le-mul l l) (omega arith) }
-
-  -- or along both together: a and b are the parts of a distance r
-  pub spaced-by : (e f a b r : ℕ) → r * r ≤ a * a + b * b → a ≤ gap x x' + e → b ≤ gap y y' + f → mag s + e + f ≤ r + tiny → Spaced s x y x' y'
-  unfolding distance²
-  spaced-by e f a b r h p q k = elim (lt-or-le (mag s) tiny) [
-    | inl l ↦ record { far = rw (sub-eq-zero-of-le (le-of-lt l)) (omega arith) }
-    | inr l ↦ record { far = short-by (mag s - tiny) e f a b r (gap x x') (gap y y') h p q (omega (arith, k, l)) }
-  ]

@@ -1,10 +1,10 @@
 -- LATTICE: two different cells of a hexagonal or a rectangular lattice, each coordinate rounded as the source rounds it, are at least the spacing less 2 ^ -30 apart.
--- Rests on `Steps` (where a point lies) and `Row` (the row height). Anchor and steps are 65,536 at most, so i is 2 ^ 36 at most and j 2 ^ 38: a job's are below 2 ^ 32.
-use mathlib.Core.Path.{_≡_, refl, sym, ap, subst}
+-- Rests on `Steps` (where a point lies) and `Row` (the row height). The anchor is 65,536 at most, i steps 131,072, the spacing 2 ^ -20 to 65,536; so i may be 2 ^ 37, and a job's are 2 ^ 32 at most.
+use mathlib.Core.Path.{_≡_, refl, ap, subst}
 use mathlib.Core.Logic.{_⊎_, inl, inr}
 use mathlib.Core.Bool.{Bool, true, false}
 use Prim.Native.Nat.{ℕ, zero, suc, _+_, _-_, _*_, _/_, _%_, _≤_, _<_}
-use native.Mathlib.Nat.{le-trans, le-of-lt, le-of-mul-le-mul-right, le-of-mul-le-mul-left, mul-le-mul, mul-le-mul-right, mul-le-mul-left, mul-pos, eq-or-lt-of-le, sub-eq-zero-of-le}
+use native.Mathlib.Nat.{le-trans, le-of-lt, le-of-mul-le-mul-right, le-of-mul-le-mul-left, mul-le-mul, mul-le-mul-right, mul-le-mul-left, mul-pos, sub-eq-zero-of-le}
 use native.Mathlib.Omega.{arith}
 use lib.IntN.{ℤ, pos, negsuc}
 use lib.Dec.{eqb, lit<}
@@ -14,7 +14,7 @@ use Rattle.rounding.specs.Signed.{Exact, nat, _⊕_, _⊗_, _≈_, _≼_
 use Rattle.rounding.specs.Relative.{Close}
 use Rattle.rounding.specs.Value.{U, E, H, mag, val}
 use Rattle.rounding.specs.Bounds.{Sized}
-use Rattle.rounding.specs.Whole.{int}
+use Rattle.rounding.specs.Integers.{int, Order, same, below, above, order}
 use Rattle.rounding.specs.Distance.{Length, tiny, tiny-is, tiny-big, half, half-is, gap, gap-sym, short-by, distance², Spaced, spaced-sym, spaced-across, spaced-along}
 use Rattle.rounding.specs.Row.{k3, three-square, Step, length-step, hexRow, row-law}
 use Rattle.rounding.specs.Steps.{Reach, across, along, offset, halves, halfSteps, across-close, along-close}
@@ -45,24 +45,6 @@ unfolding odd
 parity (pos n) = record { k = nat (n / 2); is = omega (arith, bit (n % 2) (omega arith)) }
 parity (negsuc n) = record { k = record { p = 0; n = n / 2 + 1 }; is = omega (arith, bit (2 - suc (n % 2)) (omega arith)) }
 
--- the order of two integers
-data Order (a b : ℤ) : Type 0 where
-  same : a ≡ b → Order a b
-  below : int a ⊕ nat 1 ≼ int b → Order a b
-  above : int b ⊕ nat 1 ≼ int a → Order a b
-
-order : (a b : ℤ) → Order a b
-order (pos m) (pos n) = elim (lt-or-le m n) [
-  | inl l ↦ below (omega (arith, l))
-  | inr l ↦ elim (eq-or-lt-of-le l) [ inl e ↦ same (ap pos (sym e)) | inr g ↦ above (omega (arith, g)) ]
-]
-order (pos m) (negsuc n) = above (omega arith)
-order (negsuc m) (pos n) = below (omega arith)
-order (negsuc m) (negsuc n) = elim (lt-or-le m n) [
-  | inl l ↦ above (omega (arith, l))
-  | inr l ↦ elim (eq-or-lt-of-le l) [ inl e ↦ same (ap negsuc (sym e)) | inr g ↦ below (omega (arith, g)) ]
-]
-
 -- rows next to each other: one of the two is odd
 next : (j j' : ℤ) → int j ⊕ nat 1 ≈ int j' → halves (odd j) + halves (odd j') ≡ 1
 next j j' e = go (odd j) (odd j') (parity j .k) (parity j' .k) (omega (arith, e, parity j .is, parity j' .is))
@@ -91,7 +73,7 @@ module _ (s a : Float) (A : Sized a 65536) (st : Step s) where
   across-gap o o' i i' n r r' h =
       let x = across a (offset o s) i s in
       let x' = across a (offset o' s) i' s in
-      let l = steps-apart E (mag s) n (851968 * U + 4 * H) half (val x ⊕ val x) (val x' ⊕ val x') (val a ⊕ val a) (halfSteps o i) (halfSteps o' i') (lit< tt)
+      let l = steps-apart E (mag s) n (1114112 * U + 4 * H) half (val x ⊕ val x) (val x' ⊕ val x') (val a ⊕ val a) (halfSteps o i) (halfSteps o' i') (lit< tt)
       (across-close a s o i A st r) (across-close a s o' i' A st r') h (omega (arith, tiny-is, tiny-big, half-is)) in
       omega (arith, l)
 
@@ -100,11 +82,11 @@ module _ (s a : Float) (A : Sized a 65536) (st : Step s) where
   along-gap j j' n r r' h =
       let y = along a j s in
       let y' = along a j' s in
-      let l = steps-apart E (2 * mag s) n (2 * (196608 * U + H)) half (val y ⊕ val y) (val y' ⊕ val y') (val a ⊕ val a) (int j) (int j') (lit< tt)
+      let l = steps-apart E (2 * mag s) n (2 * (327680 * U + H)) half (val y ⊕ val y) (val y' ⊕ val y') (val a ⊕ val a) (int j) (int j') (lit< tt)
       (twice y j (along-close a s j A st r)) (twice y' j' (along-close a s j' A st r')) h (omega (arith, tiny-is, tiny-big, half-is)) in
       omega (arith, l)
     where
-      twice : (y : Float) (j : ℤ) → Close E (196608 * U + H) (val y) (val a ⊕ int j ⊗ nat (mag s)) → Close E (2 * (196608 * U + H)) (val y ⊕ val y) (val a ⊕ val a ⊕ int j ⊗ nat (2 * mag s))
+      twice : (y : Float) (j : ℤ) → Close E (327680 * U + H) (val y) (val a ⊕ int j ⊗ nat (mag s)) → Close E (2 * (327680 * U + H)) (val y ⊕ val y) (val a ⊕ val a ⊕ int j ⊗ nat (2 * mag s))
       twice y j c = record { above = omega (arith, c .above); below = omega (arith, c .below) }
 
 -- S across and 2 R along, each short by d, with d for 2 ^ -31 and t for 2 ^ -30

@@ -1,4 +1,4 @@
--- Rounding keeps the order: of two exact sums, products or quotients the smaller one comes out no larger.
+-- Rounding keeps the order: of two exact sums, products, quotients or integers the smaller one comes out no larger.
 -- Rests on `Rounded` (`round` keeps the order of sizes) and `Operations`.
 use mathlib.Core.Path.{subst}
 use mathlib.Core.Bool.{Bool, true, false}
@@ -29,8 +29,9 @@ round-le true true v w f g h = omega (arith, round-mag true true w U v U U-pos U
     plain : 0 + w ≤ 0 + v → w ≤ v
     plain h = omega arith
 
-sum-le : (x y : Float) (v w : Exact) → IsRound x v → IsRound y w → T (finite x) → T (finite y) → v ≼ w → val x ≼ val y
-sum-le x y v w i j f g h =
+-- and so a sum, a difference, an integer
+pub round-order : (x y : Float) (v w : Exact) → IsRound x v → IsRound y w → T (finite x) → T (finite y) → v ≼ w → val x ≼ val y
+round-order x y v w i j f g h =
     let s = i .sign in
     let t = j .sign in
     let a = round binary64 s (i .size) U in
@@ -42,10 +43,10 @@ sum-le x y v w i j f g h =
 
 module _ (x y x' y' : Float) (p : Num x) (q : Num y) (p' : Num x') (q' : Num y') where
   pub add-mono : T (finite (x +ᶠ y)) → T (finite (x' +ᶠ y')) → val x ⊕ val y ≼ val x' ⊕ val y' → val (x +ᶠ y) ≼ val (x' +ᶠ y')
-  add-mono f g h = sum-le (x +ᶠ y) (x' +ᶠ y') (val x ⊕ val y) (val x' ⊕ val y') (add-is x y p q) (add-is x' y' p' q') f g h
+  add-mono f g h = round-order (x +ᶠ y) (x' +ᶠ y') (val x ⊕ val y) (val x' ⊕ val y') (add-is x y p q) (add-is x' y' p' q') f g h
 
   pub sub-mono : T (finite (x -ᶠ y)) → T (finite (x' -ᶠ y')) → val x ⊖ val y ≼ val x' ⊖ val y' → val (x -ᶠ y) ≼ val (x' -ᶠ y')
-  sub-mono f g h = sum-le (x -ᶠ y) (x' -ᶠ y') (val x ⊖ val y) (val x' ⊖ val y') (sub-is x y p q) (sub-is x' y' p' q') f g h
+  sub-mono f g h = round-order (x -ᶠ y) (x' -ᶠ y') (val x ⊖ val y) (val x' ⊖ val y') (sub-is x y p q) (sub-is x' y' p' q') f g h
 
   pub mul-mono : T (finite (x' *ᶠ y')) → mag x * mag y ≤ mag x' * mag y' → mag (x *ᶠ y) ≤ mag (x' *ᶠ y')
   mul-mono f h =

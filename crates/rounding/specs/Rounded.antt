@@ -4,7 +4,7 @@ use mathlib.Core.Path.{_≡_, refl, sym, ap, _∙_, subst}
 use mathlib.Core.Logic.{_⊎_, inl, inr}
 use mathlib.Core.Bool.{Bool, true, false, cond}
 use Prim.Native.Nat.{ℕ, suc, _+_, _*_, _^_, _≤_, _<_}
-use native.Mathlib.Nat.{le-trans, le-of-eq, le-of-lt, le-antisymm, lt-of-not-le, mul-le-mul-right}
+use native.Mathlib.Nat.{le-trans, le-of-eq, le-of-lt, lt-of-not-le, mul-le-mul-right}
 use native.Mathlib.Omega.{arith}
 use lib.Dec.{T, ltb, ltb→lt, lit<}
 use lib.Pow.{pow-pos}
@@ -17,7 +17,7 @@ use Rattle.laws.specs.Orders.{lt-or-le}
 use Rattle.rounding.specs.Signed.{signed}
 use Rattle.rounding.specs.Relative.{Near}
 use Rattle.rounding.specs.Nearest.{rounds, rounds-whole}
-use Rattle.rounding.specs.Value.{U, U-pos, E, H, sgn, mag, Num, Digits, digits, mag-under, mag-of, sgn-of, fine-of}
+use Rattle.rounding.specs.Value.{U, U-pos, E, H, sgn, mag, Num, Digits, mag-of, sgn-of, fine-of}
 use Rattle.rounding.specs.Comparison.{le→≼}
 
 -- ---- the result in units, where it is finite
@@ -113,10 +113,6 @@ kept-exact s g d h =
     of-value s g (2 ^ low binary64) g
     (round-exact binary64 s g (2 ^ low binary64) (d .q) (d .j) (pow-pos (low binary64)) (d .small) (subst (λ (z : ℕ). z < overflow binary64) (d .is) h) (ap (λ (z : ℕ). z * 2 ^ low binary64) (d .is)))
 
--- x is its own rounding
-pub own-finite : (s : Bool) (x : Float) → Num x → T (finite (round binary64 s (mag x) U))
-own-finite s x p = kept-exact s (mag x) (digits x p) (mag-under x p) .num .fine
-
 from-overflow : round binary64 false (overflow binary64) (2 ^ low binary64) ≡ inf false
 unfolding round
 from-overflow = refl
@@ -176,7 +172,3 @@ rounded-units s w f =
   where
     near : Near E 1 0 (mag (round binary64 s w U)) w
     near = subst (λ (g : ℕ). Near E 1 0 g w) (sym (made s w U (under s w U f) .size)) (unfold U in rounds-whole 52 w U U-pos)
-
--- a number of 53 digits that is met does not change
-pub same : {z : Float} {s : Bool} {n den : ℕ} (g : ℕ) → Rounded z s n den → Digits g → n ≡ g * den → mag z ≡ g
-same g r d e = le-antisymm (r .most g d (le-of-eq e)) (r .least g d (le-of-eq (sym e)))

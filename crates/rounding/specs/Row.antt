@@ -1,8 +1,8 @@
--- The row height of a hexagonal lattice, s * sqrt(3) / 2 as the source rounds it: twice it is √3 times the spacing, but for 2 ^ -31.
+-- The row height of a hexagonal lattice, s * sqrt(3) / 2 as the source rounds it: twice it is √3 times the spacing but for 2 ^ -31, and it is no more than the spacing.
 -- Rests on `Errors`; the root of 3 is computed.
 use mathlib.Core.Path.{_≡_, refl, sym, ap, ap₂, _∙_, subst}
 use mathlib.Core.Bool.{false}
-use Prim.Native.Nat.{ℕ, _+_, _*_, _≤_, _<_}
+use Prim.Native.Nat.{ℕ, zero, suc, _+_, _*_, _≤_, _<_}
 use native.Mathlib.Nat.{le-trans, le-of-eq, le-of-mul-le-mul-right, mul-le-mul-right, mul-le-mul-left, mul-pos}
 use native.Mathlib.Omega.{arith}
 use lib.Dec.{T, lit<, lit≤}
@@ -11,7 +11,7 @@ use Rattle.float.specs.Ops.{_*ᶠ_, _/ᶠ_, literal, 2ᶠ}
 use Rattle.float.specs.Order.{sqrt}
 use Rattle.float.specs.Root.{rootOf}
 use Rattle.rounding.specs.Relative.{Under}
-use Rattle.rounding.specs.Value.{U, U-pos, E, H, sgn, mag, Num, digits-whole}
+use Rattle.rounding.specs.Value.{U, U-pos, E, H, sgn, mag, Num, digits, digits-twice}
 use Rattle.rounding.specs.Errors.{mul-of-finite, div-law}
 use Rattle.rounding.specs.Bounds.{Sized, mul-sized}
 use Rattle.rounding.specs.Distance.{Length, length-plus, tiny-is, tiny-big, half, half-is}
@@ -65,6 +65,9 @@ pub two-mag : mag 2ᶠ ≡ 2 * U
 unfolding ofBits mag U
 two-mag = refl
 
+pub two-sized : Sized 2ᶠ 2
+two-sized = record { num = two-num; size = le-of-eq two-mag }
+
 pub two-plus : sgn 2ᶠ ≡ false
 unfolding ofBits sgn
 two-plus = refl
@@ -79,11 +82,19 @@ pub record Step (h : Float) : Type 0 where
   pub plus : sgn h ≡ false
   pub least : U ≤ mag h * 4194304
 
+pub step-above : {h : Float} → Step h → 0 < mag h
+step-above {h} st = go (mag h) (st .least)
+  where
+    go : (m : ℕ) → U ≤ m * 4194304 → 0 < m
+    go zero l = absurd (omega (arith, l, U-pos))
+    go (suc m) l = omega arith
+
 pub length-step : {s : Float} → Length s → Step s
 length-step {s} d = record { sized = d .sized; plus = length-plus d; least = omega (arith, d .least) }
 
 pub record Row (s h : Float) : Type 0 where
   pub step : Step h
+  pub low : mag h ≤ mag s
   pub tall : mag s * k3 ≤ H * (2 * mag h + half)
 
 pub row-law : (s : Float) → Length s → Row s (hexRow s)
@@ -94,7 +105,9 @@ row-law s d =
     let T' = mul-sized S three (lit< tt) in
     let p = mul-of-finite s (sqrt 3ᶠ) (S .num) (three .num) (T' .num .fine) in
     let q = div-law t 2ᶠ (T' .num) two-num (rw two-mag (omega (arith, U-pos))) (rw two-mag (omega (arith, T' .size))) in
-    let small : mag h ≤ 65536 * U = q .most (65536 * U) (digits-whole 65536 (lit< tt)) (rw two-mag (omega (arith, mul-le-mul-right U (T' .size)))) in
+    let twice : mag t ≤ 2 * mag s = p .most (2 * mag s) (digits-twice (digits s (S .num))) (omega (arith, mul-le-mul-left (mag s) (three .size))) in
+    let low : mag h ≤ mag s = q .most (mag s) (digits s (S .num)) (rw two-mag (omega (arith, mul-le-mul-right U twice))) in
+    let small : mag h ≤ 65536 * U = le-trans low (S .size) in
     let a = first H U (mag s) (mag (sqrt 3ᶠ)) (mag t) k3 U-pos three-mag (p .near .below) in
     let b = second H U (mag t) (mag h) U-pos (rw two-mag at (q .near .below)) in
     let tall = both H (mag s) k3 (mag t) (mag h) half (lit< tt) a b (room (mag h) small) in
@@ -102,13 +115,14 @@ row-law s d =
       step = record {
         sized = record { num = q .num; size = small };
         plus = q .sign ∙ ap₂ unlike (p .sign ∙ ap₂ unlike (length-plus d) three-plus) two-plus;
-        least = low (mag s) (mag h) (d .least) tall;
+        least = high (mag s) (mag h) (d .least) tall;
       };
+      low = low;
       tall = tall;
     }
   where
     room : (m : ℕ) → m ≤ 65536 * U → 6 * m + 4 * H ≤ half * (H * 2)
     room m h = omega (arith, h, tiny-is, tiny-big, half-is)
 
-    low : (S R : ℕ) → U ≤ S * 1048576 → S * k3 ≤ H * (2 * R + half) → U ≤ R * 4194304
-    low S R h t = omega (arith, h, t, tiny-is, half-is)
+    high : (S R : ℕ) → U ≤ S * 1048576 → S * k3 ≤ H * (2 * R + half) → U ≤ R * 4194304
+    high S R h t = omega (arith, h, t, tiny-is, half-is)

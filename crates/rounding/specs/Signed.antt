@@ -58,10 +58,6 @@ pub signed-le : (s : Bool) (m : ℕ) → (signed s m .p ≤ m) × (signed s m .n
 signed-le false m = omega arith
 signed-le true m = omega arith
 
-pub abs-signed : (s : Bool) (m : ℕ) → abs (signed s m) ≡ m
-abs-signed false m = omega arith
-abs-signed true m = omega arith
-
 -- |a| is m where a is m with a sign
 pub abs-of : (a : Exact) (s : Bool) (m : ℕ) → a ≈ signed s m → abs a ≡ m
 abs-of a false m h = omega arith

@@ -3,7 +3,7 @@
 use mathlib.Core.Path.{_≡_, refl, _∙_}
 use mathlib.Core.Logic.{_⊎_, inl, inr}
 use mathlib.Core.Bool.{Bool, true, false, not}
-use Prim.Native.Nat.{ℕ, _*_, _≤_, _<_}
+use Prim.Native.Nat.{ℕ, _+_, _*_, _≤_, _<_}
 use native.Mathlib.Nat.{lt-irrefl, sub-self, mul-pos}
 use native.Mathlib.Omega.{arith}
 use lib.Dec.{T, ltb, ltb→lt, not-T, lit<}
@@ -11,12 +11,13 @@ use lib.Ieee.{Float, nan, inf, fin, binary64, up, down, round, sum, add, sub, ne
 use lib.Ieee.Bits.{is-false}
 use lib.Ieee.Fits.{down-pos}
 use lib.Ieee.Scale.{finite, round-same}
-use Rattle.float.specs.Ops.{_+ᶠ_, _-ᶠ_, 0ᶠ}
+use Rattle.float.specs.Ops.{_+ᶠ_, _-ᶠ_, _*ᶠ_, 0ᶠ}
 use Rattle.rounding.specs.Signed.{Exact, signed, nat, _⊕_, _≼_}
-use Rattle.rounding.specs.Value.{U, U-pos, sgn, mag, val, Num, digits-zero}
+use Rattle.rounding.specs.Value.{U, U-pos, E, sgn, mag, val, Num, digits-zero}
+use Rattle.rounding.specs.Bounds.{Sized, add-sized, mul-sized}
 use Rattle.rounding.specs.Rounded.{round-case, round-bounded}
 use Rattle.rounding.specs.Operations.{IsRound, add-is}
-use Rattle.rounding.specs.Errors.{Rounding, Product, Quotient}
+use Rattle.rounding.specs.Errors.{Rounding, Product, Quotient, add-of-finite, mul-of-finite}
 
 abbrev pub Nonneg : Float → Type 0
 Nonneg x = nat 0 ≼ val x
@@ -32,6 +33,9 @@ zero-mag = refl
 pub zero-val : val 0ᶠ ≡ nat 0
 unfolding ofBits sgn mag U
 zero-val = refl
+
+pub zero-sized : Sized 0ᶠ 0
+zero-sized = record { num = zero-num; size = rw zero-mag (omega arith) }
 
 -- a number above 0 has no minus sign
 pub positive : (x : Float) → 0 < mag x → Nonneg x → sgn x ≡ false
@@ -75,6 +79,19 @@ module _ (x y z : Float) where
 
 pub square-plus : {x z : Float} → Product x x z → sgn z ≡ false
 square-plus {x} r = r .sign ∙ like (sgn x)
+
+-- x * x + y * y: no NaN, not infinite, not negative
+module _ (x y : Float) (k : ℕ) (X : Sized x k) (Y : Sized y k) (h : k * k + k * k < E) where
+  pub squares-sized : Sized (x *ᶠ x +ᶠ y *ᶠ y) (k * k + k * k)
+  squares-sized = add-sized (mul-sized X X (omega (arith, h))) (mul-sized Y Y (omega (arith, h))) h
+
+  pub squares-nonneg : Nonneg (x *ᶠ x +ᶠ y *ᶠ y)
+  squares-nonneg =
+      let P = mul-sized X X (omega (arith, h)) in
+      let Q = mul-sized Y Y (omega (arith, h)) in
+      let p = square-plus (mul-of-finite x x (X .num) (X .num) (P .num .fine)) in
+      let q = square-plus (mul-of-finite y y (Y .num) (Y .num) (Q .num .fine)) in
+      rounding-nonneg (add-of-finite (x *ᶠ x) (y *ᶠ y) (P .num) (Q .num) (squares-sized .num .fine)) (rw (p, q) (omega arith))
 
 -- a sum that is not negative is finite or +∞
 pub add-case : (x y : Float) → Num x → Num y → Nonneg x → Nonneg y → T (finite (x +ᶠ y)) ⊎ (x +ᶠ y ≡ inf false)

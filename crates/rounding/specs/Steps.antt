@@ -15,7 +15,8 @@ use Rattle.rounding.specs.Value.{U, U-pos, E, H, sgn, mag, val, digits-w
 use Rattle.rounding.specs.Errors.{add-of-finite, mul-law, div-law}
 use Rattle.rounding.specs.Bounds.{Sized, add-sized}
 use Rattle.rounding.specs.Signs.{zero-num, zero-mag, zero-val}
-use Rattle.rounding.specs.Whole.{int, ofInt-exact, whole-product}
+use Rattle.rounding.specs.Integers.{int}
+use Rattle.rounding.specs.Whole.{ofInt-exact, whole-product}
 use Rattle.rounding.specs.Row.{Step, two-num, two-mag, two-plus}
 
 -- anchor + offset + i as f64 * s
@@ -30,17 +31,17 @@ along anchor j h = anchor +ᶠ ofInt binary64 j *ᶠ h
 abbrev pub offset : Bool → Float → Float
 offset odd s = cond odd (s /ᶠ 2ᶠ) 0ᶠ
 
--- i steps of h are 65,536 at most
+-- i steps of h are 131,072 at most
 abbrev pub Reach : ℤ → Float → Type 0
-Reach i h = natAbs i * mag h ≤ 65536 * U
+Reach i h = natAbs i * mag h ≤ 131072 * U
 
 -- ---- a whole number of steps
 few : (i : ℤ) (h : Float) → Step h → Reach i h → natAbs i < E
-few i h st r = lt-of-le-of-lt (le-of-mul-le-mul-right {k = U} (omega (arith, r, mul-le-mul-left (natAbs i) (st .least))) U-pos) (lit< {m = 274877906944} tt)
+few i h st r = lt-of-le-of-lt (le-of-mul-le-mul-right {k = U} (omega (arith, r, mul-le-mul-left (natAbs i) (st .least))) U-pos) (lit< {m = 549755813888} tt)
 
 record Times (i : ℤ) (h p : Float) : Type 0 where
-  sized : Sized p 65536
-  close : Close E (65536 * U + H) (val p) (int i ⊗ nat (mag h))
+  sized : Sized p 131072
+  close : Close E (131072 * U + H) (val p) (int i ⊗ nat (mag h))
 
 unlike-plus : (s t : Bool) → t ≡ false → unlike s t ≡ s
 unlike-plus true t e = ap (unlike true) e
@@ -52,13 +53,13 @@ times i h st r =
     let p = f *ᶠ h in
     let n = natAbs i in
     let w = ofInt-exact i (few i h st r) in
-    let t : mag f * mag h ≤ 65536 * U * U = le-trans (le-of-eq (ap (λ (z : ℕ). z * mag h) (w .size) ∙ mul-right-comm n U (mag h))) (mul-le-mul-right U r) in
+    let t : mag f * mag h ≤ 131072 * U * U = le-trans (le-of-eq (ap (λ (z : ℕ). z * mag h) (w .size) ∙ mul-right-comm n U (mag h))) (mul-le-mul-right U r) in
     let m = mul-law f h (w .num) (st .sized .num) (omega (arith, t)) in
     let c = close-signed E H (mag p) (n * mag h) (sgn p) (whole-product f h p i w m) in
     let sign : sgn p ≡ sgn f = m .sign ∙ unlike-plus (sgn f) (sgn h) (st .plus) in
     let e : int i ⊗ nat (mag h) ≈ signed (sgn p) (n * mag h) = rw sign (scaled (int i) (sgn f) n (mag h) (omega (arith, w .sign))) in
     record {
-      sized = record { num = m .num; size = m .most (65536 * U) (digits-whole 65536 (lit< tt)) t };
+      sized = record { num = m .num; size = m .most (131072 * U) (digits-whole 131072 (lit< tt)) t };
       close = record { above = omega (arith, c .above, e, r); below = omega (arith, c .below, e, r) };
     }
 
@@ -69,10 +70,10 @@ added x y a b X Y h =
     close-wider E (abs (val x ⊕ val y)) ((a + b) * U) (val (x +ᶠ y)) (val x ⊕ val y) (omega (arith, signed-le (sgn x) (mag x), signed-le (sgn y) (mag y), X .size, Y .size)) (add-of-finite x y (X .num) (Y .num) (s .num .fine) .close)
 
 -- ---- along: two roundings
-pub along-close : (a h : Float) (j : ℤ) → Sized a 65536 → Step h → Reach j h → Close E (196608 * U + H) (val (along a j h)) (val a ⊕ int j ⊗ nat (mag h))
+pub along-close : (a h : Float) (j : ℤ) → Sized a 65536 → Step h → Reach j h → Close E (327680 * U + H) (val (along a j h)) (val a ⊕ int j ⊗ nat (mag h))
 along-close a h j A st r =
     let t = times j h st r in
-    let s = added a (ofInt binary64 j *ᶠ h) 65536 65536 A (t .sized) (lit< tt) in
+    let s = added a (ofInt binary64 j *ᶠ h) 65536 131072 A (t .sized) (lit< tt) in
     record { above = omega (arith, s .above, t .close .above); below = omega (arith, s .below, t .close .below) }
 
 -- ---- the offset: half a spacing, or nothing
@@ -105,12 +106,12 @@ abbrev pub halfSteps : Bool → ℤ → Exact
 halfSteps odd i = int i ⊕ int i ⊕ nat (halves odd)
 
 pub across-close : (a s : Float) (odd : Bool) (i : ℤ) → Sized a 65536 → Step s → Reach i s
-    → Close E (851968 * U + 4 * H) (val (across a (offset odd s) i s) ⊕ val (across a (offset odd s) i s)) (val a ⊕ val a ⊕ halfSteps odd i ⊗ nat (mag s))
+    → Close E (1114112 * U + 4 * H) (val (across a (offset odd s) i s) ⊕ val (across a (offset odd s) i s)) (val a ⊕ val a ⊕ halfSteps odd i ⊗ nat (mag s))
 across-close a s odd i A st r =
     let o = offset odd s in
     let p = ofInt binary64 i *ᶠ s in
     let sh = shift odd s st in
     let t = times i s st r in
     let b = added a o 65536 65536 A (sh .sized) (lit< tt) in
-    let x = added (a +ᶠ o) p 131072 65536 (add-sized A (sh .sized) (lit< tt)) (t .sized) (lit< tt) in
+    let x = added (a +ᶠ o) p 131072 131072 (add-sized A (sh .sized) (lit< tt)) (t .sized) (lit< tt) in
     record { above = omega (arith, sh .close .above, t .close .above, b .above, x .above); below = omega (arith, sh .close .below, t .close .below, b .below, x .below) }

@@ -3,7 +3,7 @@
 use mathlib.Core.Path.{_≡_, refl, sym, ap, _∙_}
 use mathlib.Core.Bool.{Bool, true, false, not, _&&_}
 use Prim.Native.Nat.{ℕ, zero, suc, _+_, _-_, _*_, _/_, _%_, _^_, _≤_, _<_}
-use native.Mathlib.Nat.{le-of-eq, le-of-suc-le-suc, lt-of-le-of-lt, lt-of-lt-of-le, lt-of-not-le, not-le-of-lt, lt-of-mul-lt-mul-right, mul-lt-mul-of-pos-right, mul-pos, mul-assoc, mul-comm, mul-right-comm, mul-one, zero-mul, mul-div-cancel, eq-of-mul-eq-mul-right}
+use native.Mathlib.Nat.{pow-succ', mul-left-comm, le-of-eq, le-of-suc-le-suc, lt-of-le-of-lt, lt-of-lt-of-le, lt-of-not-le, not-le-of-lt, lt-of-mul-lt-mul-right, mul-lt-mul-of-pos-right, mul-pos, mul-assoc, mul-comm, mul-right-comm, mul-one, zero-mul, mul-div-cancel, eq-of-mul-eq-mul-right}
 use native.Mathlib.Omega.{arith}
 use lib.IntN.{ℤ, pos, negsuc}
 use lib.Dec.{T, ltb, eqb, leb, ltb→lt, leb→le, lit<}
@@ -84,6 +84,9 @@ digits-at q j h = record { q = q; j = j; small = h; is = refl }
 -- a whole number below 2 ^ 53
 pub digits-whole : (n : ℕ) → n < E → Digits (n * U)
 digits-whole n h = record { q = n; j = low binary64; small = h; is = ap (λ (z : ℕ). n * z) U-is }
+
+pub digits-twice : {g : ℕ} → Digits g → Digits (2 * g)
+digits-twice {g} d = record { q = d .q; j = suc (d .j); small = d .small; is = ap (λ (z : ℕ). 2 * z) (d .is) ∙ mul-left-comm 2 (d .q) (2 ^ d .j) ∙ ap (λ (z : ℕ). d .q * z) (sym (pow-succ' 2 (d .j))) }
 
 pub digits-zero : Digits 0
 digits-zero = record { q = 0; j = 0; small = lit< tt; is = sym (zero-mul 1) }

@@ -4,11 +4,10 @@ use mathlib.Core.Path.{_≡_, refl, sym, ap, _∙_}
 use mathlib.Core.Logic.{inl, inr}
 use mathlib.Core.Bool.{Bool, true, false}
 use Prim.Native.Nat.{ℕ, zero, suc, _+_, _-_, _*_, _/_, _^_, _≤_, _<_}
-use native.Mathlib.Nat.{mul-one, mul-le-mul-right, eq-of-mul-eq-mul-right, le-of-mul-le-mul-right, lt-of-mul-lt-mul-right, mul-lt-mul-of-pos-right, div-mul-le-self, lt-div-mul-add}
+use native.Mathlib.Nat.{le-trans, le-of-eq, lt-of-le-of-lt, mul-one, mul-le-mul-right, eq-of-mul-eq-mul-right, le-of-mul-le-mul-right, lt-of-mul-lt-mul-right, mul-lt-mul-of-pos-right, div-mul-le-self, lt-div-mul-add}
 use native.Mathlib.Omega.{arith}
 use lib.IntN.{ℤ, pos, negsuc, natAbs}
-use lib.Dec.{T, leb→le, ltb→lt, lit<}
-use lib.Signed.{leZ, ltZ}
+use lib.Dec.{T, lit<}
 use lib.Pow.{pow-pos}
 use lib.Ieee.{Float, nan, inf, fin, binary64, up, down, round, ofInt, fits}
 use lib.Ieee.Fits.{down-pos}
@@ -18,28 +17,13 @@ use Rattle.laws.specs.Orders.{lt-or-le}
 use Rattle.float.specs.Whole.{floor}
 use Rattle.float.specs.Laws.Whole.{under, over, Large, floor-large, floor-above, floor-below, floor-fits}
 use Rattle.rounding.specs.Signed.{Exact, signed, same-size, nat, _⊕_, _⊗_, _≈_, _≼_, _≺_}
+use Rattle.rounding.specs.Integers.{int}
 use Rattle.rounding.specs.Relative.{Near, cancel}
 use Rattle.rounding.specs.Value.{U, U-pos, E, H, sgn, mag, val, Num, digits-whole, significand, own, value-mag, fine-of, sgn-of}
 use Rattle.rounding.specs.Rounded.{B}
 use Rattle.rounding.specs.Operations.{IsRound}
+use Rattle.rounding.specs.Bounds.{Sized}
 use Rattle.rounding.specs.Errors.{Rounding, rounding, size-bound, Product}
-
--- ---- integers, read as exact numbers
-abbrev pub int : ℤ → Exact
-int (pos n) = nat n
-int (negsuc n) = record { p = 0; n = suc n }
-
-pub int-le : (a b : ℤ) → T (leZ a b) → int a ≼ int b
-int-le (pos m) (pos n) h = omega (arith, leb→le m n h)
-int-le (pos m) (negsuc n) h = absurd h
-int-le (negsuc m) (pos n) h = omega arith
-int-le (negsuc m) (negsuc n) h = omega (arith, leb→le n m h)
-
-pub int-lt : (a b : ℤ) → T (ltZ a b) → int a ≺ int b
-int-lt (pos m) (pos n) h = omega (arith, ltb→lt m n h)
-int-lt (pos m) (negsuc n) h = absurd h
-int-lt (negsuc m) (pos n) h = omega arith
-int-lt (negsuc m) (negsuc n) h = omega (arith, ltb→lt n m h)
 
 -- z whole ones, in units
 abbrev pub ones : ℤ → Exact
@@ -90,6 +74,9 @@ ofInt-exact z h = whole z h (ofInt-law z (omega arith))
     whole : (z : ℤ) → natAbs z < E → Rounding (ofInt binary64 z) (ones z) → IsWhole (ofInt binary64 z) z
     whole (pos n) h r = let a = at (ofInt binary64 (pos n)) false n (ones (pos n)) (omega arith) h r in record { num = r .num; is = omega (arith, a .0); size = a .1; sign = a .2 }
     whole (negsuc n) h r = let a = at (ofInt binary64 (negsuc n)) true (suc n) (ones (negsuc n)) (omega arith) h r in record { num = r .num; is = omega (arith, a .0); size = a .1; sign = a .2 }
+
+pub int-sized : (z : ℤ) (k : ℕ) → natAbs z ≤ k → k < E → Sized (ofInt binary64 z) k
+int-sized z k h l = let w = ofInt-exact z (lt-of-le-of-lt h l) in record { num = w .num; size = le-trans (le-of-eq (w .size)) (mul-le-mul-right U h) }
 
 -- a whole number times y
 pub whole-product : (x y z : Float) (i : ℤ) → IsWhole x i → Product x y z → Near E 1 H (mag z) (natAbs i * mag y)

@@ -30,9 +30,9 @@ use Rattle.rounding.specs.Signs.{rounding-nonneg, add-case, sub-none}
 use Rattle.rounding.specs.Whole.{ofInt-exact}
 use Rattle.rounding.specs.Casts.{floor-usize}
 use Rattle.rounding.specs.Shares.{Weight, minus-zero}
 use Rattle.glyphs.specs.Apportion.{total, noWeight, share, wholeShare, remainder, base, rems, assigned, byRemainder, apportion}
-use Rattle.glyphs.specs.HandOut.{assigned-sum, handed-sum}
+use Rattle.claims.specs.HandOut.{assigned-sum, handed-sum}
 use Rattle.glyphs.specs.Quotas.{quotaOf, leftOver, rank-next, by-keys, by-rank, apportioned}
 
 -- ---- no weight: all to the first
 pub all-first : (n : ℕ) (weights : List Float) → 0 < length weights → noWeight (total weights) ≡ true → apportion n weights ≡ set (replicate (length weights) 0) 0 n

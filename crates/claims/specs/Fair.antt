@@ -24,9 +24,9 @@ use Rattle.rounding.specs.Selection.{finite-not-nan}
 use Rattle.rounding.specs.Casts.{floor-usize}
 use Rattle.rounding.specs.Distance.{tiny-is}
 use Rattle.rounding.specs.Shares.{Weight, Weights, none, more, sum, Summed, summed, bit25, Share, share-law}
-use Rattle.glyphs.specs.HandOut.{assigned-sum, handed-sum}
+use Rattle.claims.specs.HandOut.{assigned-sum, handed-sum}
 use Rattle.glyphs.specs.Apportion.{total, noWeight, share, wholeShare, remainder, base, rems, assigned, byRemainder, apportion}
 use Rattle.glyphs.specs.Quotas.{quotaOf, leftOver, by-rank, apportioned}
 
 -- ---- the claim's words
 -- up to 16 weights that are finite and not negative, of a computed sum above 0 and finite

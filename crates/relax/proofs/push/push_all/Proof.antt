@@ -1,0 +1,84 @@
+-- `push_all` meets its contract. The invariant of both loops: what is to come are the pushes of the marks from mark k on.
+-- Rests on the laws of a fold over a block, over one element and over none.
+use mathlib.Core.Path.{_≡_, refl, sym, _∙_}
+use mathlib.Core.List.{foldl}
+use Prim.Native.Nat.{_≤_, _<_, _-_, _/_}
+use native.Mathlib.Omega.{arith}
+use lib.ListN.{length, drop}
+use borrow.Author.Needs.{needs}
+use Rattle.laws.specs.Folds.{fold-step, fold-end}
+use Rattle.laws.specs.Blocks.{fold-block}
+use Rattle.glyphs.specs.Spots.{spotsOf, spots-at, length-spots}
+use Rattle.relax.specs.Field.{pushOf}
+use Rattle.relax.proofs.push.push_all.Statement.{statement}
+use Rattle.relax.proofs.push.push_all.Tie as tie
+
+abbrev Inv-loop : tie.InvT-loop
+Inv-loop influence p spots n f₀ k₀ f k =
+    (k ≤ n)
+    × (n ≡ length spots / 2)
+    × (foldl (pushOf influence p) f₀ (spotsOf spots) ≡ foldl (pushOf influence p) f (drop k (spotsOf spots)))
+
+abbrev μ-loop : tie.MeasureT-loop
+μ-loop influence p spots n f₀ k₀ f k = n - k
+
+abbrev Inv-loop2 : tie.InvT-loop2
+Inv-loop2 influence p spots n f₀ k₀ f k =
+    (k ≤ n)
+    × (n ≡ length spots / 2)
+    × (foldl (pushOf influence p) f₀ (drop k₀ (spotsOf spots)) ≡ foldl (pushOf influence p) f (drop k (spotsOf spots)))
+
+abbrev μ-loop2 : tie.MeasureT-loop2
+μ-loop2 influence p spots n f₀ k₀ f k = n - k
+
+loop-holds : tie.Need-loop-holds Inv-loop μ-loop Inv-loop2 μ-loop2
+loop-holds c = (search needs, search needs, refl)
+
+loop-again : tie.Need-loop-again Inv-loop μ-loop Inv-loop2 μ-loop2
+loop-again c =
+    let l = c .before .before .loop in
+    let a = c .before .before .before .before .args in (
+      search needs,
+      search needs,
+      l .inv .2 ∙ fold-block (pushOf (a .influence) (a .p)) (l .f) 8 (l .k) (spotsOf (a .spots .now)) ∙ rw (c .push-eight .ensures),
+    )
+
+loop2-again : tie.Need-loop2-again Inv-loop μ-loop Inv-loop2 μ-loop2
+loop2-again c =
+    let l = c .before .before .before .loop2 in
+    let a = c .before .before .before .before .before .before .before .args in
+    let s = spotsOf (a .spots .now) in
+    let q = c .before .spot in
+    let h : l .k < length s = simp length-spots (omega arith) in (
+      search needs,
+      search needs,
+      l .inv .2
+          ∙ fold-step (pushOf (a .influence) (a .p)) (l .f) s (l .k) (q .result) h
+          ∙ rw (spots-at (a .spots .now) (l .k) (q .result) (omega arith), ← q .ensures, c .push .ensures),
+    )
+
+returns : tie.Need-returns Inv-loop μ-loop Inv-loop2 μ-loop2
+returns c =
+    let l = c .before .loop2 in
+    let a = c .before .before .before .before .before .args in
+    let s = spotsOf (a .spots .now) in
+    let h : length s ≤ l .k = simp length-spots (omega arith) in
+    sym (c .before .before .before .loop .inv .2 ∙ l .inv .2 ∙ fold-end (pushOf (a .influence) (a .p)) (l .f) s (l .k) h)
+
+pub push-all-spec : {M : Type 1} → statement M
+push-all-spec =
+    tie.close
+    (tie.spec Inv-loop μ-loop Inv-loop2 μ-loop2
+    loop-holds
+    (λ c. search needs)
+    (λ c κs. search needs)
+    (λ c. search needs)
+    (λ c. search needs)
+    loop-again
+    (λ c. (search needs, search needs, refl))
+    (λ c κs. search needs)
+    (λ c κs. search needs)
+    (λ c. search needs)
+    (λ c. search needs)
+    loop2-again
+    returns)

@@ -1,0 +1,123 @@
+-- The other marks are those before mark i and those after it; marks too far away push nothing; and the order of an acceptance's tests does not matter.
+-- Rests on the definitions and the laws of `all`.
+use mathlib.Core.Path.{_≡_, refl, sym, ap, _∙_}
+use mathlib.Core.Bool.{Bool, true, false, not, cond, _&&_, _||_}
+use mathlib.Core.List.{List, [], _∷_, foldl}
+use Prim.Native.Nat.{ℕ, zero, suc, _+_, _<_}
+use native.Mathlib.Omega.{arith}
+use native.Mathlib.Numerals.{add-one}
+use native.Mathlib.Nat.{zero-add}
+use lib.ListN.{length, take, drop}
+use lib.Ieee.{Float}
+use borrow.Author.Tests.{eq-eqb, ne-eqb}
+use Rattle.laws.specs.Any.{all}
+use Rattle.float.specs.Ops.{_*ᶠ_, _<ᶠ_}
+use Rattle.glyphs.specs.declared.rect.Point.{Point}
+use Rattle.glyphs.specs.declared.rect.Rectangle.{Rectangle}
+use Rattle.glyphs.specs.Rect.{clearOfObstacles}
+use Rattle.glyphs.specs.Spots.{apart}
+use Rattle.regions.specs.Ring.{Piece}
+use Rattle.regions.specs.Clearance.{signedClearance}
+use Rattle.relax.specs.declared.push.Force.{Force}
+use Rattle.relax.specs.declared.field.Field.{Field}
+use Rattle.relax.specs.declared.field.Acceptance.the-variants.{Clear, Refused}
+use Rattle.relax.specs.Field.{pushOf, pushes, clearOfOthers, accepts}
+
+regroup : (a b c : Bool) → a && (b && c) ≡ (a && b) && c
+regroup true b c = refl
+regroup false b c = refl
+
+both : (a b : Bool) → a && b ≡ true → (a ≡ true) × (b ≡ true)
+both true b h = (refl, h)
+both false b h = absurd (let z : _≡_ {A = ℕ} 0 1 = cc in omega arith)
+
+or-true : (a : Bool) → a || true ≡ true
+or-true true = refl
+or-true false = refl
+
+-- ---- the spacing test
+
+module _ (x y least : Float) where
+  clear-past : (i j : ℕ) (qs : List Point) → i < j → clearOfOthers x y least i j qs ≡ all (apart x y least) qs
+  unfolding clearOfOthers all
+  clear-past i j [] h = refl
+  clear-past i j (q ∷ qs) h = rw (ne-eqb j i (λ e. omega arith), clear-past i (j + 1) qs (omega arith))
+
+  clear-from :
+      (m j : ℕ) (qs : List Point) → m < length qs
+      → clearOfOthers x y least (j + m) j qs ≡ all (apart x y least) (take m qs) && all (apart x y least) (drop (suc m) qs)
+  unfolding clearOfOthers all
+  clear-from m j [] h = absurd (omega arith)
+  clear-from zero j (q ∷ qs) h = rw (eq-eqb j (j + 0) (omega arith), clear-past (j + 0) (j + 1) qs (omega arith))
+  clear-from (suc m) j (q ∷ qs) h =
+      let e : j + suc m ≡ j + 1 + m = omega arith in
+      rw (ne-eqb j (j + suc m) (λ e. omega arith), e, clear-from m (j + 1) qs (omega arith)) (regroup (apart x y least q) _ _)
+
+pub clear-others :
+    (x y least : Float) (i : ℕ) (points : List Point) → i < length points
+    → clearOfOthers x y least i 0 points ≡ all (apart x y least) (take i points) && all (apart x y least) (drop (i + 1) points)
+clear-others x y least i points h = ap (λ (k : ℕ). clearOfOthers x y least k 0 points) (sym (zero-add i)) ∙ clear-from x y least i 0 points h ∙ rw add-one
+
+-- ---- the pushes
+
+module _ (influence : Float) (p : Point) where
+  push-past : (i j : ℕ) (qs : List Point) (f : Force) → i < j → pushes influence i p j qs f ≡ foldl (pushOf influence p) f qs
+  unfolding pushes
+  push-past i j [] f h = refl
+  push-past i j (q ∷ qs) f h = rw (ne-eqb j i (λ e. omega arith)) (push-past i (j + 1) qs _ (omega arith))
+
+  push-from :
+      (m j : ℕ) (qs : List Point) (f : Force) → m < length qs
+      → pushes influence (j + m) p j qs f ≡ foldl (pushOf influence p) (foldl (pushOf influence p) f (take m qs)) (drop (suc m) qs)
+  unfolding pushes
+  push-from m j [] f h = absurd (omega arith)
+  push-from zero j (q ∷ qs) f h = rw (eq-eqb j (j + 0) (omega arith)) (push-past (j + 0) (j + 1) qs f (omega arith))
+  push-from (suc m) j (q ∷ qs) f h =
+      let e : j + suc m ≡ j + 1 + m = omega arith in
+      rw (ne-eqb j (j + suc m) (λ e. omega arith), e) (push-from m (j + 1) qs (pushOf influence p f q) (omega arith))
+
+  pub push-others :
+      (i : ℕ) (points : List Point) (f : Force) → i < length points
+      → pushes influence i p 0 points f
+      ≡ foldl (pushOf influence p) (foldl (pushOf influence p) f (take i points)) (drop (i + 1) points)
+  push-others i points f h = ap (λ (k : ℕ). pushes influence k p 0 points f) (sym (zero-add i)) ∙ push-from i 0 points f h ∙ rw add-one
+
+  far : (q : Point) (f : Force) → apart (p .x) (p .y) (influence *ᶠ influence) q ≡ true → pushOf influence p f q ≡ f
+  unfolding apart pushOf
+  far q f h = rw (h, or-true)
+
+  -- none of the marks is near enough
+  pub far-all : (qs : List Point) (f : Force) → all (apart (p .x) (p .y) (influence *ᶠ influence)) qs ≡ true → foldl (pushOf influence p) f qs ≡ f
+  unfolding all
+  far-all [] f h = refl
+  far-all (q ∷ qs) f h =
+      let e = both (apart (p .x) (p .y) (influence *ᶠ influence) q) (all (apart (p .x) (p .y) (influence *ᶠ influence)) qs) h in
+      rw (far q f (e .0)) (far-all qs f (e .1))
+
+-- ---- the tests of an acceptance, in another order
+
+reordered : {A : Type 0} (a b c : Bool) (v r : A) → cond a r (cond b r (cond c v r)) ≡ cond c (cond (not b) (cond a r v) r) r
+reordered true true true v r = refl
+reordered true true false v r = refl
+reordered true false true v r = refl
+reordered true false false v r = refl
+reordered false true true v r = refl
+reordered false true false v r = refl
+reordered false false true v r = refl
+reordered false false false v r = refl
+
+pub accepts-reordered :
+    (field : Field) (piece : Piece) (obstacles : List Rectangle) (candidate : Point) (i : ℕ) (points : List Point) (honoring : Bool)
+    → accepts field piece obstacles candidate i points honoring
+    ≡ cond (clearOfOthers (candidate .x) (candidate .y) (field .spacing *ᶠ field .spacing) i 0 points)
+    (cond (not (honoring && not (clearOfObstacles (candidate .x) (candidate .y) obstacles (field .inset))))
+    (cond (signedClearance (candidate .x) (candidate .y) piece <ᶠ field .inset) Refused (Clear (signedClearance (candidate .x) (candidate .y) piece)))
+    Refused)
+    Refused
+unfolding accepts
+accepts-reordered field piece obstacles candidate i points honoring =
+    reordered (signedClearance (candidate .x) (candidate .y) piece <ᶠ field .inset)
+    (honoring && not (clearOfObstacles (candidate .x) (candidate .y) obstacles (field .inset)))
+    (clearOfOthers (candidate .x) (candidate .y) (field .spacing *ᶠ field .spacing) i 0 points)
+    (Clear (signedClearance (candidate .x) (candidate .y) piece))
+    Refused

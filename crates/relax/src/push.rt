@@ -1,0 +1,86 @@
+// relax.rs, `force_on`: the pushes of the neighbours.
+ghost use mathlib.Core.Path.{_≡_};
+ghost use mathlib.Core.List.{foldl};
+ghost use Prim.Native.Nat.{_+_, _/_, _≤_, _<_};
+ghost use lib.ListN.{length, take, drop};
+ghost use Rattle.glyphs.specs.Spots.{spotsOf};
+ghost use Rattle.relax.specs.Field.{at, noForce, pushOf, pushes};
+use glyphs::rect::Point;
+use glyphs::spots::apart_from_eight;
+use glyphs::spots::spot;
+use glyphs::spots::spots_after;
+use glyphs::spots::spots_before;
+
+// A push on a mark.
+pub struct Force {
+    pub x: f64,
+    pub y: f64,
+}
+
+// The push of the neighbour q on p, added to the push so far.
+fn push(influence: f64, p: Point, f: Force, q: Point) -> Force
+    ensures { λ r. ⌜ r ≡ pushOf influence p f q ⌝ }
+{
+    let dx = p.x - q.x;
+    let dy = p.y - q.y;
+    let d2 = dx * dx + dy * dy;
+    if (d2 <= 0.0) | (d2 >= influence * influence) {
+        return f;
+    }
+    let d = float::root(d2);
+    let w = (influence - d) / influence;
+    Force {
+        x: f.x + w * dx / d,
+        y: f.y + w * dy / d,
+    }
+}
+
+// The pushes of the eight marks from mark `k` on. Mostly all are too far away.
+fn push_eight(influence: f64, p: Point, start: Force, spots: &[f64], k: usize) -> Force
+    requires { ⌜ k + 8 ≤ length (now spots) / 2 ⌝ }
+    ensures { λ r. ⌜ r ≡ foldl (pushOf influence p) start (take 8 (drop k (spotsOf (now (spots .entry))))) ⌝ }
+{
+    if apart_from_eight(p.x, p.y, influence * influence, spots, k) {
+        return start;
+    }
+    let mut f = start;
+    let mut j = 0;
+    while j < 8 {
+        f = push(influence, p, f, spot(spots, k + j));
+        j += 1;
+    }
+    f
+}
+
+// The pushes of all marks of a slice.
+fn push_all(influence: f64, p: Point, start: Force, spots: &[f64]) -> Force
+    ensures { λ r. ⌜ r ≡ foldl (pushOf influence p) start (spotsOf (now (spots .entry))) ⌝ }
+{
+    let n = spots.len() / 2;
+    let mut f = start;
+    let mut k = 0;
+    while n - k >= 8 {
+        f = push_eight(influence, p, f, spots, k);
+        k += 8;
+    }
+    while k < n {
+        f = push(influence, p, f, spot(spots, k));
+        k += 1;
+    }
+    f
+}
+
+// The pushes of all other marks on mark `i`.
+pub fn push_others(influence: f64, i: usize, spots: &[f64]) -> Force
+    requires { ⌜ i < length (now spots) / 2 ⌝ }
+    ensures { λ r. ⌜ r ≡ pushes influence i (at (spotsOf (now (spots .entry))) i) 0 (spotsOf (now (spots .entry))) noForce ⌝ }
+{
+    let p = spot(spots, i);
+    let f = push_all(
+        influence,
+        p,
+        Force { x: 0.0, y: 0.0 },
+        spots_before(spots, i),
+    );
+    push_all(influence, p, f, spots_after(spots, i))
+}
