@@ -1,6 +1,6 @@
 -- Cells in a list of five floats each: x, y, clearance, halvings and entry, the last two as bit patterns.
 -- Rests on the kit's laws of bit patterns.
-use Prim.Native.Nat.{ℕ, _+_, _*_, _^_, _<_, _≤_}
+use Prim.Native.Nat.{ℕ, _+_, _*_, _<_, _≤_}
 use mathlib.Core.Path.{_≡_, refl, sym, subst}
 use mathlib.Core.Logic.{_⊎_, inl, inr}
 use mathlib.Core.Bool.{Bool, true, false, not}
@@ -11,7 +11,7 @@ use borrow.Author.Tests.{leb-true, leb-false}
 use lib.Dec.{T, leb, lit<}
 use lib.ListN.{length, getD, set, length-set}
 use lib.Seq.{getD-set-same, getD-set-other}
-use lib.Ieee.{Float, nan, binary64, isNan, nanBits, toBits, ofBits}
+use lib.Ieee.{Float, nan, binary64, toBits, ofBits}
 use lib.Ieee.Bits.{toBits-ofBits, nanBits-is}
 use Rattle.float.specs.Laws.Nan.{Number}
 use Rattle.float.specs.Laws.Pattern.{no-nan}

@@ -1,6 +1,6 @@
 -- The definition's turns are enough: with more of them the search answers the same.
 -- Rests on what cells weigh.
-use Prim.Native.Nat.{ℕ, zero, suc, _+_, _-_, _*_, _<_, _≤_}
+use Prim.Native.Nat.{ℕ, zero, suc, _+_, _-_, _<_, _≤_}
 use mathlib.Core.Path.{_≡_, refl, sym}
 use mathlib.Core.Bool.{Bool, true, false, cond, true≢false}
 use mathlib.Core.List.{List, [], _∷_}
@@ -11,11 +11,10 @@ use lib.Dec.{ltb}
 use lib.ListN.{length}
 use lib.Ieee.{Float}
 use Rattle.regions.specs.Ring.{Piece}
-use Rattle.deepest.specs.Deepest.{nodes, heft, sumOver, betterOf, answerOf, splitsAt, enterFour, turns}
+use Rattle.deepest.specs.Deepest.{heft, sumOver, betterOf, splitsAt, enterFour, turns}
 use Rattle.deepest.specs.Turns.{nodes-pos, nodes-split, weight-four, turn-done}
 use Rattle.deepest.specs.declared.queue.Cell.{Cell}
 use Rattle.deepest.specs.declared.search.Best.{Best}
-use Rattle.deepest.specs.declared.search.Deepest.{Deepest}
 use Rattle.deepest.specs.declared.search.Deepest.the-variants.{Full}
 
 -- a cell that is split has been halved fewer than 21 times

@@ -1,20 +1,18 @@
 -- 21 halvings never cut a search short: a cell that leaves after 21 halvings is not deep enough to be split, for every precision of at least 1/1024.
 -- Rests on the rounding laws: the bound of such a cell is less than 1/1024 above the best.
 use Prim.Native.Nat.{ℕ, zero, suc, _+_, _-_, _*_, _^_, _<_, _≤_}
-use mathlib.Core.Path.{_≡_, refl, sym, ap, _∙_, subst}
+use mathlib.Core.Path.{_≡_, refl}
 use mathlib.Core.Bool.{Bool, true, false, cond}
-use mathlib.Core.List.{List, [], _∷_}
 use native.Mathlib.Omega.{arith}
 use native.Mathlib.Nat.{le-trans, one-mul, zero-add, suc-add, pow-suc, mul-le-mul, mul-le-mul-right, le-of-mul-le-mul-right}
 use lib.Dec.{T, lit<, lit≤}
-use lib.ListN.{getD}
-use lib.Ieee.{Float, nan, binary64, low, lt, le, ofBits, fits}
+use lib.Ieee.{Float, le, ofBits, fits}
 use Rattle.laws.specs.Truth.{no}
 use Rattle.float.specs.Ops.{_+ᶠ_, _-ᶠ_, _*ᶠ_, _/ᶠ_, _<ᶠ_, _≤ᶠ_, literal, 2ᶠ}
 use Rattle.float.specs.Laws.Compare.{le-self, not-lt-le}
-use Rattle.rounding.specs.Signed.{Exact, signed, signed-le, nat, abs, _⊕_, _⊖_, _≼_}
-use Rattle.rounding.specs.Value.{U, U-pos, E, H, sgn, mag, val, Num, Digits, digits-at, digits-whole}
-use Rattle.rounding.specs.Bounds.{Sized, wider, add-sized, sub-sized, mul-sized}
+use Rattle.rounding.specs.Signed.{Exact, signed-le, nat, abs, _⊕_, _≼_}
+use Rattle.rounding.specs.Value.{U, U-pos, E, sgn, mag, val, Num, Digits, digits-at, digits-whole}
+use Rattle.rounding.specs.Bounds.{Sized, add-sized, sub-sized, mul-sized}
 use Rattle.rounding.specs.Errors.{div-law, mul-law, add-law, sub-law}
 use Rattle.rounding.specs.Comparison.{le→≼, ≼→le}
 use Rattle.regions.specs.Sizes.{sized-number}
@@ -23,11 +21,11 @@ use Rattle.deepest.specs.declared.search.Best.{Best}
 use Rattle.deepest.specs.Order.{√2ᶠ, halvesFrom, halfAt, boundOf}
 use Rattle.deepest.specs.declared.queue.Cell.{Cell}
 
-two-num : Num 2ᶠ
+pub two-num : Num 2ᶠ
 unfolding ofBits fits
 two-num = record { fit = tt; fine = tt }
 
-two-mag : mag 2ᶠ ≡ 2 * U
+pub two-mag : mag 2ᶠ ≡ 2 * U
 unfolding ofBits mag U
 two-mag = refl
 

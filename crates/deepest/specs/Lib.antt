@@ -10,3 +10,5 @@ pub mod Search
 pub mod Fuel
 pub mod Halvings
 pub mod Plant
+pub mod Unlimited
+pub mod Whole

@@ -1,12 +1,11 @@
 -- The waiting cells of the slice are those of the definition's list: equal as bags, so that the heap's first is the list's first.
 -- Rests on the laws of the order of leaving.
-use Prim.Native.Nat.{ℕ, zero, suc, _+_, _-_, _*_, _<_, _≤_, zero-le}
+use Prim.Native.Nat.{ℕ, zero, suc, _+_, _-_, _<_, zero-le}
 use mathlib.Core.Path.{_≡_, refl, sym, ap, _∙_, subst}
 use mathlib.Core.Logic.{_⊎_, inl, inr}
 use mathlib.Core.Bool.{Bool, true, false, cond, _&&_, Bool·beq, true≢false}
 use mathlib.Core.List.{List, [], _∷_}
 use native.Mathlib.Omega.{arith}
-use native.Mathlib.Numerals.{add-one}
 use native.Mathlib.Nat.{le-of-suc-le-suc, eq-or-lt-of-le}
 use lib.Arith.{lt-of-le-ne}
 use borrow.Author.Tests.{eqb-true, eq-eqb}
@@ -16,7 +15,7 @@ use lib.ListN.{length}
 use lib.Ieee.{Float, nan, inf, fin}
 use Rattle.deepest.specs.Order.{leaves, leaves-chain, leaves-asym, leaves-tie}
 use Rattle.deepest.specs.Cells.{cellAt}
-use Rattle.deepest.specs.Heap.{Heaped, root-first, same-or-not, itself}
+use Rattle.deepest.specs.Heap.{root-first, same-or-not, itself}
 use Rattle.deepest.specs.Queue.{total, Queue, Pushed, Popped}
 use Rattle.deepest.specs.Deepest.{enter, sumOver}
 use Rattle.deepest.specs.declared.queue.Cell.{Cell}
@@ -165,7 +164,7 @@ array-has c A (suc n) k l e =
     ]
 
 -- ---- in the list: the cells, each of which leaves before those after it
-abbrev Each : (Cell → Type 0) → List Cell → Type 0
+abbrev pub Each : (Cell → Type 0) → List Cell → Type 0
 Each P [] = Unit {0}
 Each P (c ∷ cs) = P c × Each P cs
 
@@ -196,7 +195,7 @@ module _ (halves : List Float) where
   each-map P Q f [] a = tt
   each-map P Q f (c ∷ cs) a = (f c (a .0), each-map P Q f cs (a .1))
 
-  each-enter : (P : Cell → Type 0) (c : Cell) (q : List Cell) → P c → Each P q → Each P (enter halves c q)
+  pub each-enter : (P : Cell → Type 0) (c : Cell) (q : List Cell) → P c → Each P q → Each P (enter halves c q)
   unfolding enter
   each-enter P c [] p a = (p, tt)
   each-enter P c (e ∷ es) p a = pick (leaves halves c e) (each-enter P c es p (a .1))

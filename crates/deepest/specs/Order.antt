@@ -1,7 +1,7 @@
 -- The order in which waiting cells leave: the greatest bound first, of equal bounds the first to enter.
 -- Rests on float's laws of comparisons.
 use Prim.Native.Nat.{ℕ, zero, suc, _+_, _-_, _≤_, _<_}
-use mathlib.Core.Path.{_≡_, refl, sym, _∙_, subst}
+use mathlib.Core.Path.{_≡_, refl, sym, _∙_}
 use mathlib.Core.Logic.{_⊎_, inl, inr}
 use mathlib.Core.Bool.{Bool, true, false, not, _&&_, _||_, true≢false}
 use mathlib.Core.List.{List, [], _∷_, _++_, append-nil}
@@ -13,8 +13,7 @@ use borrow.Author.Tests.{le-ltb, ltb-true, ltb-false}
 use lib.Dec.{T, ltb}
 use lib.ListN.{length, getD, take, set}
 use lib.Seq.{take-all, take-suc-set, append-snoc}
-use lib.Ieee.Bits.{is-true, is-false}
-use lib.Ieee.{Float, nan, inf, fin, lt, le, isNan}
+use lib.Ieee.{Float, nan, inf, fin, lt, isNan}
 use Rattle.laws.specs.Truth.{yes, no, or-split}
 use Rattle.float.specs.Ops.{_+ᶠ_, _*ᶠ_, _/ᶠ_, _<ᶠ_, literal, 2ᶠ}
 use Rattle.float.specs.Laws.Nan.{Number, lt-number}

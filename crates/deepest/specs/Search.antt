@@ -1,9 +1,9 @@
 -- The search's state at each turn of its loop, against the definition.
 -- Rests on the laws of turns and of the waiting cells.
-use Prim.Native.Nat.{ℕ, zero, suc, _+_, _-_, _*_, _/_, _<_, _≤_}
-use mathlib.Core.Path.{_≡_, refl, sym, ap, _∙_, subst}
+use Prim.Native.Nat.{ℕ, _+_, _-_, _*_, _<_, _≤_}
+use mathlib.Core.Path.{_≡_, refl, ap, _∙_}
 use mathlib.Core.Bool.{true, false}
-use mathlib.Core.List.{List, [], _∷_}
+use mathlib.Core.List.{List, _∷_}
 use native.Mathlib.Nat.{le-refl}
 use native.Mathlib.Omega.{arith}
 use lib.ListN.{length}
@@ -12,7 +12,7 @@ use Rattle.regions.specs.Ring.{Piece}
 use Rattle.deepest.specs.Cells.{cellAt}
 use Rattle.deepest.specs.Queue.{total, Queue, Popped}
 use Rattle.deepest.specs.Match.{Match, match-pop, match-none, match-length}
-use Rattle.deepest.specs.Deepest.{nodes, heft, sumOver, betterOf, answerOf, splitsAt, enterFour, turns}
+use Rattle.deepest.specs.Deepest.{heft, sumOver, betterOf, answerOf, splitsAt, enterFour, turns}
 use Rattle.deepest.specs.Turns.{Quartered, nodes-pos, nodes-split, weight-four, turn-done, turn-keep, turn-full, turn-split}
 use Rattle.deepest.specs.declared.queue.Cell.{Cell}
 use Rattle.deepest.specs.declared.search.Best.{Best}

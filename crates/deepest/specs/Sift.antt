@@ -1,8 +1,8 @@
 -- A cell on its way up through the waiting cells, or down: what holds at each turn of the loops of `push` and `pop`.
 -- Rests on the laws of the heap and of the bag.
-use Prim.Native.Nat.{ℕ, zero, suc, _+_, _-_, _*_, _/_, _<_, _≤_}
+use Prim.Native.Nat.{ℕ, _+_, _-_, _*_, _<_, _≤_}
 use mathlib.Core.Path.{_≡_, refl, sym, ap, _∙_, subst}
-use mathlib.Core.Logic.{_⊎_, inl, inr}
+use mathlib.Core.Logic.{inl, inr}
 use mathlib.Core.Bool.{true, false}
 use mathlib.Core.List.{List}
 use native.Mathlib.Omega.{arith}
@@ -12,9 +12,9 @@ use lib.Arith.{lt-of-le-ne}
 use lib.ListN.{length}
 use lib.Ieee.{Float}
 use Rattle.deepest.specs.Order.{leaves, leaves-chain}
-use Rattle.deepest.specs.Cells.{cellAt, putCell, Tagged, Sound, length-put, put-same, put-other, put-sound, put-keeps}
+use Rattle.deepest.specs.Cells.{cellAt, putCell, Tagged, Sound, length-put, put-sound, put-keeps}
 use Rattle.deepest.specs.Heap.{parent, Heaped, Changed, Up, Down, First, same-or-not, up-start, up-step, up-done, down-start, down-step, down-done}
-use Rattle.deepest.specs.Queue.{total, Queue, Pushed, Popped, changed-put, total-same, total-changed}
+use Rattle.deepest.specs.Queue.{total, Queue, Pushed, Popped, changed-put, total-changed}
 use Rattle.deepest.specs.declared.queue.Cell.{Cell}
 
 below-last : (k m : ℕ) → k < m + 1 → (k ≡ m → ⊥) → k < m

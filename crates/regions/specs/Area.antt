@@ -2,7 +2,7 @@
 use Prim.Native.Nat.{ℕ, zero, suc}
 use mathlib.Core.Path.{_≡_, refl}
 use mathlib.Core.Bool.{cond}
-use mathlib.Core.List.{List, map, foldl}
+use mathlib.Core.List.{List, foldl}
 use lib.Dec.{ltb}
 use lib.Ieee
 use lib.Ieee.{Float, neg}

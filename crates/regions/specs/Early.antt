@@ -3,7 +3,7 @@
 use Prim.Native.Nat.{ℕ, zero, suc, _+_, _≤_, _<_, zero-le}
 use mathlib.Core.Path.{_≡_, refl, sym, ap, _∙_, subst}
 use mathlib.Core.Logic.{_⊎_, inl, inr}
-use mathlib.Core.Bool.{Bool, true, false, not, cond}
+use mathlib.Core.Bool.{Bool, true, false, cond}
 use mathlib.Core.List.{List, [], _∷_, foldl}
 use native.Mathlib.Omega.{arith}
 use native.Mathlib.Numerals.{add-one}
@@ -24,7 +24,7 @@ use Rattle.regions.specs.Ring.{Piece}
 use Rattle.regions.specs.Clearance.{squareAt, closer, within, minDistToRings, signedClearance}
 use Rattle.regions.specs.Squares.{leastAfter, leastOfRing, leastOfRings}
 use Rattle.regions.specs.Least.{Good, after-good, ring-good, rings-good, ∞-good, least-root}
-use Rattle.regions.specs.Margin.{lowSquare, highSquare, marginOf, untilFrom, untilOfRing, untilOfRings, until-stop}
+use Rattle.regions.specs.Margin.{lowSquare, highSquare, untilFrom, untilOfRing, untilOfRings, until-stop}
 
 -- not true, so false
 refuted : (b : Bool) → (T b → ⊥) → b ≡ false

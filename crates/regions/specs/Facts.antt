@@ -3,7 +3,7 @@
 use mathlib.Core.Path.{_≡_, refl}
 use mathlib.Core.Bool.{Bool, true, false, cond}
 use lib.Dec.{T}
-use lib.Ieee.{Float, nan, inf, fin, binary64, neg, lt, le, isNan, ofBits}
+use lib.Ieee.{Float, nan, inf, fin, neg, le, isNan, ofBits}
 use Rattle.laws.specs.Truth.{no}
 use Rattle.float.specs.Ops.{_<ᶠ_, _≤ᶠ_, 0ᶠ, ∞}
 use Rattle.float.specs.Order.{max}

@@ -1,6 +1,6 @@
 -- regions.rs, `point_in_polygon`: the even-odd test of a point against a ring. Definitions only.
 use Prim.Native.Nat.{ℕ, zero, suc}
-use mathlib.Core.Bool.{Bool, true, false, not, cond, _&&_, Bool·beq}
+use mathlib.Core.Bool.{Bool, false, not, cond, _&&_, Bool·beq}
 use lib.Dec.{ltb}
 use lib.Ieee.{Float}
 use Rattle.float.specs.Ops.{_+ᶠ_, _-ᶠ_, _*ᶠ_, _/ᶠ_, _<ᶠ_, _>ᶠ_, ε}

@@ -4,7 +4,7 @@ use Prim.Native.Nat.{ℕ, zero, suc}
 use mathlib.Core.Path.{_≡_, refl, sym, ap, _∙_}
 use mathlib.Core.Bool.{Bool, true, false, cond}
 use mathlib.Core.List.{List, [], _∷_, foldl}
-use lib.Dec.{T, ltb}
+use lib.Dec.{ltb}
 use lib.Ieee.{Float, binary64, lt, ofBits, isNan}
 use lib.Ieee.Bits.{ofBits-fits}
 use Rattle.laws.specs.Truth.{yes}
@@ -12,11 +12,10 @@ use Rattle.float.specs.Ops.{∞}
 use Rattle.float.specs.Order.{sqrt}
 use Rattle.float.specs.Root.{rootOf}
 use Rattle.float.specs.Laws.Nan.{Number, lt-number}
-use Rattle.float.specs.Laws.Zero.{origin}
 use Rattle.float.specs.Laws.Square.{Square, times-self, plus}
 use Rattle.float.specs.Laws.Minimum.{lesser-root}
 use Rattle.glyphs.specs.Points.{Ring, vertices}
-use Rattle.regions.specs.Clearance.{edgeSquare, squareAt, closer, bestAfter, bestOfRing, minDistToRings}
+use Rattle.regions.specs.Clearance.{edgeSquare, closer, bestAfter, bestOfRing, minDistToRings}
 use Rattle.regions.specs.Squares.{leastAfter, leastOfRing, leastOfRings}
 
 edge-square : (px py ax ay bx by : Float) → Square (edgeSquare px py ax ay bx by)

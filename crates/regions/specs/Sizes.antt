@@ -1,33 +1,33 @@
 -- How large a clearance is: where the outer ring's vertices lie within 1,024 and the place within 15,360, at most 26,067.
 -- Rests on the rounding laws of sizes.
 use Prim.Native.Nat.{ℕ, zero, suc, _+_, _-_, _*_, _^_, _<_, _≤_}
-use mathlib.Core.Path.{_≡_, refl, sym, ap, _∙_, subst}
-use mathlib.Core.Bool.{Bool, true, false, not, cond}
+use mathlib.Core.Path.{_≡_, refl, sym, subst}
+use mathlib.Core.Bool.{Bool, true, false, cond}
 use mathlib.Core.List.{List, [], _∷_, foldl}
 use native.Mathlib.Omega.{arith}
 use borrow.Author.Tests.{ne-eqb, lt-ltb, le-ltb}
-use lib.Dec.{T, ltb, eqb, lit<, lit≤}
-use lib.Ieee.{Float, nan, inf, fin, Format, binary64, prec, emax, low, up, down, odd, units, round, div, lt, le, isNan, ofBits, neg, unlike, fits}
+use lib.Dec.{T, ltb, lit<, lit≤}
+use lib.Ieee.{Float, nan, inf, fin, binary64, prec, emax, low, up, down, odd, units, round, div, lt, le, isNan, ofBits, neg, unlike, fits}
 use lib.Ieee.Fits.{round-is, div-fits}
 use lib.Ieee.Nearest.{closest}
 use lib.Ieee.Order.{drop}
 use lib.Ieee.Scale.{finite}
 use Rattle.laws.specs.Truth.{yes, no}
-use Rattle.float.specs.Ops.{_+ᶠ_, _-ᶠ_, _*ᶠ_, _/ᶠ_, _<ᶠ_, _≤ᶠ_, 0ᶠ, 1ᶠ, ∞}
-use Rattle.float.specs.Order.{clamp, sqrt}
+use Rattle.float.specs.Ops.{_+ᶠ_, _-ᶠ_, _*ᶠ_, _/ᶠ_, _<ᶠ_, 0ᶠ, 1ᶠ, ∞}
+use Rattle.float.specs.Order.{clamp}
 use Rattle.float.specs.Laws.Nan.{Number}
 use Rattle.float.specs.Laws.Zero.{origin, origin-is, zero-not-above}
 use Rattle.float.specs.Laws.Compare.{not-lt-le, le-trans, le-self}
-use Rattle.rounding.specs.Value.{U, E, mag, Num}
+use Rattle.rounding.specs.Value.{U, mag, Num}
 use Rattle.rounding.specs.Bounds.{Sized, wider, neg-sized, add-sized, sub-sized, mul-sized, ranged}
 use Rattle.rounding.specs.Sqrt.{sqrt-sized}
 use Rattle.rounding.specs.Comparison.{le→≼}
-use Rattle.rounding.specs.Signs.{Nonneg, zero-num, zero-mag, zero-val}
+use Rattle.rounding.specs.Signs.{zero-num, zero-mag, zero-val}
 use Rattle.glyphs.specs.Points.{Ring, vertices, xAt, yAt}
-use Rattle.regions.specs.Ring.{Piece, next}
+use Rattle.regions.specs.Ring.{next}
 use Rattle.regions.specs.Clearance.{along, edgeSquare, squareAt, closer, within, minDistToRings, signedClearance}
 use Rattle.regions.specs.Squares.{leastAfter, leastOfRing, leastOfRings}
-use Rattle.regions.specs.Least.{Good, least-root, after-good, ring-good, rings-good, ∞-good}
+use Rattle.regions.specs.Least.{Good, least-root, ring-good, rings-good, ∞-good}
 use Rattle.regions.specs.Facts.{zero-number}
 use Rattle.regions.specs.Early.{after-falls, at-least-zero, ring-falls}
 

@@ -1,6 +1,5 @@
 -- `first_child` meets its contract: the lesser of two children.
 -- Rests on the laws of the order of leaving.
-use mathlib.Core.Path.{_≡_, _∙_, sym, ap}
 use native.Mathlib.Omega.{arith}
 use borrow.Author.Needs.{needs}
 use Rattle.deepest.specs.Cells.{cellAt}

@@ -1,7 +1,7 @@
 -- `pop` meets its contract. The invariant: the last cell is on its way down from the first place.
 -- Rests on the laws of that way's start, step and end.
 use Prim.Native.Nat.{ℕ, _-_, _+_}
-use mathlib.Core.Path.{_≡_, refl, sym, subst}
+use mathlib.Core.Path.{_≡_, sym, subst}
 use mathlib.Core.Bool.{true, false}
 use native.Mathlib.Omega.{arith}
 use borrow.Author.Needs.{needs}

@@ -1,12 +1,9 @@
 -- `deepest_point` meets its contract: none without bounds, else the search within them.
 -- Rests on the contracts of the bounds and the search.
-use Prim.Native.Nat.{_/_, _*_, _<_, _≤_}
-use mathlib.Core.Path.{_≡_, refl, sym, ap, _∙_}
 use native.Mathlib.Omega.{arith}
 use borrow.Author.Needs.{needs}
 use borrow.Author.Tests.{lt-ltb, le-ltb}
-use lib.ListN.{length}
-use Rattle.regions.specs.Ring.{pieceOf, first-sum, outer-is, outer-vertices}
+use Rattle.regions.specs.Ring.{first-sum, outer-is, outer-vertices}
 use Rattle.deepest.specs.Deepest.{deepestPoint}
 use Rattle.deepest.proofs.search.deepest_point.Statement.{statement}
 use Rattle.deepest.proofs.search.deepest_point.Tie as tie

@@ -1,6 +1,5 @@
 -- `enter_cell` meets its contract: a cell is made and pushed.
 -- Rests on the contracts of both.
-use native.Mathlib.Omega.{arith}
 use mathlib.Core.Path.{sym, subst}
 use borrow.Author.Needs.{needs}
 use Rattle.deepest.specs.Cells.{Tagged}

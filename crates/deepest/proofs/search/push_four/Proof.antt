@@ -1,6 +1,6 @@
 -- `push_four` meets its contract: four cells, one after another.
 -- Rests on the contract of `enter_cell`.
-use mathlib.Core.Path.{_≡_, _∙_}
+use mathlib.Core.Path.{_∙_}
 use native.Mathlib.Omega.{arith}
 use borrow.Author.Needs.{needs}
 use Rattle.deepest.specs.Turns.{quartered}

@@ -1,11 +1,8 @@
 -- `search` meets its contract: the table, the first cells, and the turns.
 -- Rests on the contracts of the three.
-use Prim.Native.Nat.{_/_}
-use mathlib.Core.Path.{_≡_, refl, sym, ap, _∙_}
+use mathlib.Core.Path.{sym}
 use native.Mathlib.Omega.{arith}
 use borrow.Author.Needs.{needs}
-use lib.ListN.{length}
-use Rattle.regions.specs.Ring.{pieceOf}
 use Rattle.deepest.specs.Deepest.{centreOf}
 use Rattle.deepest.specs.Plant.{seeds-over, seeds-some, search-over, search-some, light}
 use Rattle.deepest.proofs.search.search.Statement.{statement}

@@ -4,7 +4,6 @@ use Prim.Native.Nat.{_≤_, _<_, _-_, _/_}
 use mathlib.Core.Path.{_≡_}
 use native.Mathlib.Nat.{le-antisymm}
 use native.Mathlib.Numerals.{add-one}
-use native.Mathlib.Omega.{arith}
 use borrow.Author.Needs.{needs}
 use borrow.Author.Tests.{lt-ltb, le-ltb}
 use lib.ListN.{length}

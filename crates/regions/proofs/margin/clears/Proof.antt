@@ -1,7 +1,7 @@
 -- `clears` meets its contract: the inside test first, then the edges until one is too near.
 -- Rests on the laws that a point outside has no clearance above 0, and that stopping early changes no answer.
 use mathlib.Core.Path.{_≡_, sym, ap, _∙_}
-use mathlib.Core.Bool.{true, false}
+use mathlib.Core.Bool.{true}
 use borrow.Author.Needs.{needs}
 use borrow.Author.Tests.{not-true, not-false}
 use lib.Ieee.{Float}

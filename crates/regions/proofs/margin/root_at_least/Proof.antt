@@ -1,6 +1,6 @@
 -- `root_at_least` meets its contract: from the upper square on no root is taken.
 -- Rests on the law that the root of such a square is at least the clearance.
-use mathlib.Core.Path.{sym, ap, subst}
+use mathlib.Core.Path.{sym, subst}
 use borrow.Author.Needs.{needs}
 use lib.Dec.{T}
 use lib.Ieee.{Float, le}
