@@ -6,12 +6,12 @@ use native.Mathlib.Omega.{arith}
 use mir.Syntax.{w64}
 use mir.Val.{Fits, boolByte}
 
-flag-le : (b : Bool) → boolByte b ≤ 1
+pub flag-le : (b : Bool) → boolByte b ≤ 1
 flag-le true = omega arith
 flag-le false = omega arith
 
-pub flag-fits : (r : ℕ) (a : Bool) → r < 2 ^ 54 → Fits w64 (r + boolByte a)
-flag-fits r a h = record { fits = omega (arith, flag-le a) }
+pub sum-lt : (r d : ℕ) → r < 2 ^ 54 → d ≤ 1 → r + d < 2 ^ 55
+sum-lt r d h k = omega arith
 
-pub flags-fit : (r : ℕ) (a b : Bool) → r < 2 ^ 54 → Fits w64 (r + boolByte a + boolByte b)
-flags-fit r a b h = record { fits = omega (arith, flag-le a, flag-le b) }
+pub sum-fits : (r d : ℕ) → r < 2 ^ 55 → d ≤ 1 → Fits w64 (r + d)
+sum-fits r d h k = record { fits = omega arith }

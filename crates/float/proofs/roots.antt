@@ -1,6 +1,6 @@
 mod Digit
 mod Residual
-mod Pattern
+mod Fields
 mod Scaled
 mod Value
 mod Tests

@@ -2,7 +2,9 @@ pub mod Nan
 pub mod Compare
 pub mod Zero
 pub mod Same
+pub mod Order
 pub mod Pattern
+pub mod Total
 pub mod Whole
 pub mod Fits
 pub mod Square

@@ -4,3 +4,4 @@ pub mod Order
 pub mod Whole
 pub mod Total
 pub mod Laws
+pub mod Cases

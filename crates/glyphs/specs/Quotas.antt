@@ -69,7 +69,7 @@ unfolding weigh
 weigh-same p q [] h = refl
 weigh-same p q (i ∷ is) h = rw (h i, weigh-same p q is h)
 
-weigh-append : (p : ℕ → ℕ) (is js : List ℕ) → weigh p (is ++ js) ≡ weigh p is + weigh p js
+pub weigh-append : (p : ℕ → ℕ) (is js : List ℕ) → weigh p (is ++ js) ≡ weigh p is + weigh p js
 unfolding weigh
 weigh-append p [] js = omega arith
 weigh-append p (i ∷ is) js = omega (arith, weigh-append p is js)

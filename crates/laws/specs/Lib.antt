@@ -2,6 +2,7 @@ pub mod Any
 pub mod Blocks
 pub mod Casts
 pub mod Choice
+pub mod Every
 pub mod Folds
 pub mod Lists
 pub mod Orders

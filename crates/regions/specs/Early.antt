@@ -33,7 +33,7 @@ refuted false h = refl
 
 -- ---- the least never rises
 
-at-least-zero : (x : Float) → Good x → T (le origin x)
+pub at-least-zero : (x : Float) → Good x → T (le origin x)
 at-least-zero x g = not-lt-le origin x (unfold isNan in tt) (g .number) (g .square .not-below)
 
 closer-le : (s b : Float) → Good b → T (le (closer s b) b)
@@ -49,7 +49,7 @@ module _ (px py b : Float) (ring : Ring) (g : Good b) where
   unfolding leastAfter
   after-step n m = closer-le _ _ (after-good px py b ring g n m)
 
-  after-falls : (n i m : ℕ) → i ≤ m → T (le (leastAfter px py b ring n m) (leastAfter px py b ring n i))
+  pub after-falls : (n i m : ℕ) → i ≤ m → T (le (leastAfter px py b ring n m) (leastAfter px py b ring n i))
   after-falls n i zero h =
       let e : i ≡ 0 = omega arith in
       rw e (le-self _ (after-good px py b ring g n 0 .number))
@@ -63,7 +63,7 @@ module _ (px py b : Float) (ring : Ring) (g : Good b) where
       same : i ≡ suc m → T (le (leastAfter px py b ring n (suc m)) (leastAfter px py b ring n i))
       same e = rw e (le-self _ (after-good px py b ring g n (suc m) .number))
 
-  ring-falls : T (le (leastOfRing px py b ring) b)
+  pub ring-falls : T (le (leastOfRing px py b ring) b)
   unfolding leastOfRing leastAfter
   ring-falls = go (ltb (vertices ring) 2)
     where
@@ -196,7 +196,7 @@ until-at-least px py c rings =
     stopped-same c _ _ (rings-good px py ∞ rings ∞-good) (rings-stopped px py (lowSquare c) ∞ ∞ rings ∞-good (inl refl))
     ∙ ap (λ (x : Float). c ≤ᶠ x) (sym (least-root px py rings))
 
-flat : T (le (neg origin) origin)
+pub flat : T (le (neg origin) origin)
 unfolding le neg
 flat = tt
 

@@ -6,3 +6,5 @@ pub mod Squares
 pub mod Least
 pub mod Margin
 pub mod Early
+pub mod Facts
+pub mod Sizes

@@ -8,10 +8,10 @@ use native.Mathlib.Omega.{arith}
 use native.Mathlib.Numerals.{add-one}
 use native.Mathlib.Nat.{zero-add}
 use lib.Dec.{ltb}
-use lib.ListN.{length, getD, take, drop, drop-of-length-le}
+use lib.ListN.{length, getD, take, drop, length-take, length-drop, drop-of-length-le}
 use lib.Seq.{drop-cons}
 use lib.Ieee.{Float}
-use Rattle.glyphs.specs.Points.{Ring}
+use Rattle.glyphs.specs.Points.{Ring, vertices}
 
 abbrev pub Piece : Type 0
 Piece = List Ring
@@ -79,3 +79,16 @@ pub first-sum : (sizes : List ℕ) → 0 < length sizes → sum sizes ≡ getD s
 unfolding sum
 first-sum [] h = absurd (omega arith)
 first-sum (n ∷ sizes) h = refl
+
+pub outer-is : (sizes : List ℕ) (coords : List Float) → 0 < length sizes → outer (pieceOf sizes coords) ≡ part coords 0 (getD sizes 0 0)
+unfolding outer
+outer-is sizes coords h = rw (first-ring sizes coords h)
+
+-- the outer ring has as many vertices as its size says
+pub outer-vertices :
+    (sizes : List ℕ) (coords : List Float) → 0 < length sizes → sum sizes * 2 ≤ length coords
+    → vertices (outer (pieceOf sizes coords)) ≡ getD sizes 0 0
+unfolding part
+outer-vertices sizes coords h r =
+    let s = first-sum sizes h in
+    rw (outer-is sizes coords h) (simp (length-take, length-drop) (omega arith))

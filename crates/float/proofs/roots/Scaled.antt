@@ -1,14 +1,14 @@
--- The pattern of the root of m * 2 ^ 52 * 2 ^ g, from the whole number r nearest to √(M * 2 ^ 52), where M is m or 2 * m as g is even or odd. Assumes nothing.
+-- The pattern of the root of m * 2 ^ 52 * 2 ^ g, from the whole number r nearest to √(M * 2 ^ 52), where M is m or 2 * m as g is even or odd.
+-- Rests on `Laws/Floor.antt` and `Fields.antt`.
 use mathlib.Core.Path.{_≡_, sym, ap, _∙_, subst}
 use Prim.Native.Nat.{ℕ, _+_, _*_, _/_, _%_, _^_, _≤_, _<_}
 use native.Mathlib.Nat.{le-trans, le-of-eq, lt-of-le-of-lt, mul-le-mul-right, mul-lt-mul-of-pos-right, mul-assoc, mul-right-comm, mod-eq-of-lt, mul-le-mul-left, le-mul-of-pos-right, zero-lt-suc}
 use native.Mathlib.Omega.{arith}
 use lib.Pow.{pow-add, pow-pos, pow-lt, pow-mono}
 use lib.Ieee.{binary64, toBits}
-use Rattle.float.specs.Root.{nearestRoot}
-use Rattle.float.specs.Root.{Near}
+use Rattle.float.specs.Root.{nearestRoot, Near}
 use Rattle.float.specs.Laws.Floor.{nearest-at, near-le, near-ge}
-use Rattle.float.proofs.roots.Pattern.{toBits-units}
+use Rattle.float.proofs.roots.Fields.{units-pattern}
 
 lo : (M : ℕ) → 2 ^ 52 ≤ M → 2 ^ 52 * 2 ^ 52 ≤ M * 2 ^ 52
 lo M h = mul-le-mul-right (2 ^ 52) h
@@ -26,7 +26,7 @@ scaled N M k r e l h small n =
     sym
     (ap (λ (x : ℕ). toBits binary64 (nearestRoot binary64 x)) (sym e)
     ∙ ap (toBits binary64) (nearest-at binary64 (M * 2 ^ 52) k r (lo M l) (hi M h) n)
-    ∙ toBits-units binary64 r k (near-ge (M * 2 ^ 52) r (2 ^ 52) (lo M l) n) top fine)
+    ∙ units-pattern r k (near-ge (M * 2 ^ 52) r (2 ^ 52) (lo M l) n) top fine)
 
 -- ---- m moved up by the last bit of g, as the program does it
 module _ (m g : ℕ) (least : 2 ^ 52 ≤ m) (most : m < 2 ^ 53) where

@@ -10,10 +10,12 @@ use lib.Ieee.{Float, nan, inf, fin, binary64, fits, isNan, nanBits, ofBits, toBi
 use lib.Ieee.Bits.{ofBits-toBits, nanBits-is}
 use Rattle.laws.specs.Truth.{yes, no}
 use Rattle.float.specs.Root.{rootOf}
-use Rattle.float.specs.Laws.Nan.{Number, lt-number}
+use Rattle.float.specs.Laws.Nan.{Number, lt-number, le-number}
+use Rattle.float.specs.Laws.Compare.{lt-le}
 use Rattle.float.specs.Laws.Zero.{origin, origin-is, zero-not-above, zero-equal, positive-above, nonzero-unequal}
-use Rattle.float.specs.Laws.Fits.{rootOf-fits, root-of-above}
+use Rattle.float.specs.Laws.Fits.{rootOf-fits}
 use Rattle.float.specs.Laws.Pattern.{finite-pattern}
+use Rattle.float.specs.Laws.Monotone.{root-above}
 
 -- ---- the test `x > 0.0`
 abbrev Above : Float → Type 0
@@ -28,7 +30,7 @@ above-number x h = lt-number (ofBits binary64 0) x (yes h) .1
 -- what the program makes of the root's pattern
 pub pattern-number : (x : Float) → T (fits binary64 x) → Above x → T (not (nanBits binary64 (toBits binary64 (rootOf binary64 x))))
 pattern-number x f h =
-    rw (nanBits-is binary64 (toBits binary64 (rootOf binary64 x)) ∙ ap isNan (ofBits-toBits binary64 (rootOf binary64 x) (rootOf-fits binary64 x f))) (root-of-above x (above-it x h))
+    rw (nanBits-is binary64 (toBits binary64 (rootOf binary64 x)) ∙ ap isNan (ofBits-toBits binary64 (rootOf binary64 x) (rootOf-fits binary64 x f))) (le-number origin (rootOf binary64 x) (root-above binary64 x (lt-le origin x (above-it x h))) .1)
 
 pub above-pattern : (x : Float) → T (fits binary64 x) → Above x → 0 < toBits binary64 x
 above-pattern x f h =

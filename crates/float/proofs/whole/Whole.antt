@@ -6,8 +6,8 @@ use Prim.Native.Nat.{ℕ, zero, suc, _+_, _*_, _^_, _≤_, _<_, min}
 use native.Mathlib.Nat.{le-of-lt, mul-lt-mul-of-pos-right, mul-le-mul-right}
 use native.Mathlib.Omega.{arith}
 use lib.IntN.{ℤ, pos, negℤ}
-use lib.Dec.{T, ltb, ltb→lt, lt→ltb, nltb→le, le→leb, T-not}
-use lib.Ieee.{Float, nan, inf, fin, binary64, up, down, neg, round, lt, fits, inFloat, ofInt, toUnsigned}
+use lib.Dec.{T, ltb, ltb→lt, lt→ltb, nltb→le, T-not}
+use lib.Ieee.{Float, nan, inf, fin, binary64, up, down, neg, round, lt, fits, ofInt, toUnsigned}
 use lib.Ieee.Fits.{down-pos, neg-fits, round-fits}
 use lib.Ieee.Exact.{HasValue}
 use lib.Ieee.Back.{round-whole, whole-unique}
@@ -64,10 +64,6 @@ cut-is m e h = omega (arith, under-lt (suc m) e h)
 
 above-is : (m : ℕ) (e : ℤ) → Small (suc m) e → as-usize (ceil (fin false (suc m) e)) ≡ over (suc m) e
 above-is m e h = unsigned-value (ceil (fin false (suc m) e)) (over (suc m) e) (ceil-above m e h) (omega (arith, over-le (suc m) e h))
-
-pub in-float : (n : ℕ) → n ≤ 2 ^ 53 → T (inFloat binary64 (pos n))
-unfolding inFloat
-in-float n h = le→leb n (2 ^ 53) h
 
 -- a whole number below a value
 ltb-scale : (a b k : ℕ) → 0 < k → ltb (a * k) (b * k) ≡ ltb a b

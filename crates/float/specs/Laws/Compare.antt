@@ -22,19 +22,19 @@ abbrev pub minus : Bool → ℕ → ℕ
 minus false a = 0
 minus true a = a
 
-abbrev AtMost : Bool → ℕ → Bool → ℕ → Type 0
+abbrev pub AtMost : Bool → ℕ → Bool → ℕ → Type 0
 AtMost s a t b = plus s a + minus t b ≤ plus t b + minus s a
 
-abbrev Less : Bool → ℕ → Bool → ℕ → Type 0
+abbrev pub Less : Bool → ℕ → Bool → ℕ → Type 0
 Less s a t b = plus s a + minus t b < plus t b + minus s a
 
-le-says : (s t : Bool) (a b : ℕ) → T (below s a t b || level s a t b) → AtMost s a t b
+pub le-says : (s t : Bool) (a b : ℕ) → T (below s a t b || level s a t b) → AtMost s a t b
 le-says false false a b h = elim (or-split (ltb a b) (eqb a b && true) h) [ inl u ↦ omega (arith, ltb→lt a b u) | inr u ↦ omega (arith, eqb→eq a b (and-l (eqb a b) true u)) ]
 le-says false true a b h = omega (arith, eqb→eq a b (and-l (eqb a b) (eqb a 0) h), eqb→eq a 0 (and-r (eqb a b) (eqb a 0) h))
 le-says true false a b h = omega arith
 le-says true true a b h = elim (or-split (ltb b a) (eqb a b && true) h) [ inl u ↦ omega (arith, ltb→lt b a u) | inr u ↦ omega (arith, eqb→eq a b (and-l (eqb a b) true u)) ]
 
-lt-says : (s t : Bool) (a b : ℕ) → T (below s a t b) → Less s a t b
+pub lt-says : (s t : Bool) (a b : ℕ) → T (below s a t b) → Less s a t b
 lt-says false false a b h = omega (arith, ltb→lt a b h)
 lt-says false true a b h = absurd h
 lt-says true false a b h = omega (arith, ltb→lt 0 (a + b) h)
@@ -183,3 +183,23 @@ neg-le (fin s m e) (fin t n d) h =
     turn false true a b h = omega arith
     turn true false a b h = omega arith
     turn true true a b h = omega arith
+
+pub neg-twice : (x : Float) → neg (neg x) ≡ x
+unfolding neg
+neg-twice nan = refl
+neg-twice (inf true) = refl
+neg-twice (inf false) = refl
+neg-twice (fin true m e) = refl
+neg-twice (fin false m e) = refl
+
+pub neg-number : (x : Float) → Number x → Number (neg x)
+unfolding neg isNan
+neg-number nan n = n
+neg-number (inf s) n = tt
+neg-number (fin s m e) n = tt
+
+pub neg-lt : (x y : Float) → T (lt x y) → T (lt (neg y) (neg x))
+neg-lt x y h =
+    let n = lt-number x y h in
+    not-le-lt (neg y) (neg x) (neg-number y (n .1)) (neg-number x (n .0))
+    (not-T (le (neg x) (neg y)) (λ (g : T (le (neg x) (neg y))). lt-not-le x y h (rw (neg-twice y, neg-twice x) at (neg-le (neg x) (neg y) g))))

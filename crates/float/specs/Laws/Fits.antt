@@ -1,12 +1,11 @@
--- A root fits its format, and is a number where it is taken of a value that is above zero.
+-- A root fits its format.
 -- Rests on the kit's account of `units`.
-use mathlib.Core.Bool.{Bool, true, false, not, cond}
+use mathlib.Core.Bool.{Bool, true, false, cond}
 use Prim.Native.Nat.{ℕ, zero, suc, _+_, _-_, _*_, _/_, _^_, _≤_, _<_, compare}
 use native.Mathlib.Nat.{le-refl, le-trans, lt-of-le-of-lt}
-use lib.IntN.{pos}
 use lib.Dec.{T, ltb, ltb→lt}
 use lib.Pow.{pow-lt}
-use lib.Ieee.{Float, nan, inf, fin, Format, binary64, prec, emax, low, up, down, size, nearest, odd, units, fits, isNan, lt}
+use lib.Ieee.{Float, nan, inf, fin, Format, prec, emax, low, up, down, size, nearest, odd, units, fits}
 use lib.Ieee.Fits.{kept-lt, nearest-le, odd-fits, inf-fits, nan-fits}
 use Rattle.float.specs.Root.{rootOf, nearestRoot, floorRoot}
 
@@ -37,26 +36,3 @@ rootOf-fits f (fin true zero e) h = h
 rootOf-fits f (fin false zero e) h = h
 rootOf-fits f (fin true (suc m) e) h = nan-fits f
 rootOf-fits f (fin false (suc m) e) h = nearestRoot-fits f (suc m * up e * (2 ^ low f * 2 ^ low f) / down e)
-
-units-number : (f : Format) (q k : ℕ) → T (not (isNan (units f false q k)))
-unfolding units isNan
-units-number f q k = go (ltb (q * 2 ^ k) (2 ^ (low f + suc (emax f)))) q
-  where
-    go : (b : Bool) (r : ℕ) → T (not (isNan (cond b (odd (suc (prec f)) false r k (low f)) (inf false))))
-    go true zero = tt
-    go true (suc r) = tt
-    go false r = tt
-
-nearest-number : (f : Format) (n : ℕ) → T (not (isNan (nearestRoot f n)))
-unfolding nearestRoot
-nearest-number f n = units-number f _ _
-
-pub root-of-above : (x : Float) → T (lt (fin false 0 (pos 0)) x) → T (not (isNan (rootOf binary64 x)))
-unfolding lt isNan rootOf
-root-of-above nan t = t
-root-of-above (inf true) t = t
-root-of-above (inf false) t = tt
-root-of-above (fin true zero e) t = tt
-root-of-above (fin false zero e) t = tt
-root-of-above (fin true (suc m) e) t = t
-root-of-above (fin false (suc m) e) t = nearest-number binary64 (suc m * up e * (2 ^ 1074 * 2 ^ 1074) / down e)

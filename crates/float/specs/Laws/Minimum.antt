@@ -7,19 +7,21 @@ use mathlib.Core.List.{List, [], _∷_, map, foldl}
 use Prim.Native.Nat.{ℕ, zero, suc, _*_, _%_, _^_, _≤_}
 use native.Mathlib.Nat.{mul-le-mul, mul-pos, zero-lt-suc}
 use lib.IntN.{ℤ, negsuc}
-use lib.Dec.{T, ltb, leb, eqb, leb→le, lt→ltb, T-not}
+use lib.Dec.{T, ltb, leb, eqb, leb→le, lt→ltb, T-not, not-T}
 use lib.Ieee.{Float, nan, inf, fin, Format, binary32, binary64, prec, emax, low, up, down, fits, lt, le, eq, isNan}
 use lib.Ieee.Bits.{is-false}
 use lib.Ieee.Fits.{and-l, and-r, up-pos}
 use lib.Ieee.Positive.{cross→le}
 use Rattle.laws.specs.Truth.{yes, no, or-split}
+use Rattle.float.specs.Ops.{_+ᶠ_, _*ᶠ_}
 use Rattle.float.specs.Root.{rootOf}
-use Rattle.float.specs.Order.{sqrt, min}
-use Rattle.float.specs.Laws.Nan.{Number, nan-or, le-number}
+use Rattle.float.specs.Order.{sqrt, hypot, min}
+use Rattle.float.specs.Laws.Nan.{Number, nan-or, lt-nan, le-number}
 use Rattle.float.specs.Laws.Compare.{lt-le, lt-not-le, not-lt-le, lt-le-trans, le-lt-trans}
 use Rattle.float.specs.Laws.Zero.{origin, zero-not-above}
 use Rattle.float.specs.Laws.Same.{Zero, same}
-use Rattle.float.specs.Laws.Square.{Square}
+use Rattle.float.specs.Laws.Order.{min-elim}
+use Rattle.float.specs.Laws.Square.{Square, times-self, plus}
 use Rattle.float.specs.Laws.Fits.{rootOf-fits}
 use Rattle.float.specs.Laws.Monotone.{rootOf-mono, root-above}
 
@@ -95,12 +97,6 @@ at-least x n s = not-lt-le origin x tt n (s .not-below)
 no-lesser : (x y : Float) → lt y x ≡ false → lt (sqrt y) (sqrt x) ≡ false → cond (lt (sqrt y) (sqrt x)) (sqrt y) (sqrt x) ≡ sqrt (cond (lt y x) y x)
 no-lesser x y a b = rw (a, b) refl
 
-lt-nan : (x : Float) → (lt x nan ≡ false) × (lt nan x ≡ false)
-unfolding lt
-lt-nan nan = (refl, refl)
-lt-nan (inf s) = (refl, refl)
-lt-nan (fin s m e) = (refl, refl)
-
 root-nan : sqrt nan ≡ nan
 unfolding rootOf
 root-nan = refl
@@ -120,6 +116,20 @@ lesser-root x y s t =
 pub square-root-number : (x : Float) → Number x → Square x → Number (sqrt x)
 square-root-number x n s = le-number origin (sqrt x) (root-above binary64 x (at-least x n s)) .1
 
+pub square-root : (x : Float) → Square x → Square (sqrt x)
+square-root x s = record { fit = rootOf-fits binary64 x (s .fit); not-below = not-T (lt (sqrt x) origin) below }
+  where
+    below : T (lt (sqrt x) origin) → ⊥
+    below h =
+        elim (nan-or x) [
+          | inl i ↦ subst T (lt-nan origin .1) (rw (i, root-nan) at h)
+          | inr n ↦ lt-not-le (sqrt x) origin h (root-above binary64 x (at-least x n s))
+        ]
+
+pub hypot-square : (a b : Float) → Square (hypot a b)
+unfolding hypot
+hypot-square a b = square-root (a *ᶠ a +ᶠ b *ᶠ b) (plus (a *ᶠ a) (b *ᶠ b) (times-self a) (times-self b))
+
 pub root-min : (x y : Float) → Square x → Square y → min (sqrt x) (sqrt y) ≡ sqrt (min x y)
 unfolding min
 root-min x y s t =
@@ -134,14 +144,8 @@ Squares [] = Unit {0}
 Squares (x ∷ xs) = Square x × Squares xs
 
 pub square-min : (x y : Float) → Square x → Square y → Square (min x y)
-unfolding min
-square-min x y s t = go (isNan x) (lt y x)
-  where
-    go : (b c : Bool) → Square (cond b y (cond c y x))
-    go true c = t
-    go false true = t
-    go false false = s
+square-min x y s t = min-elim x y Square (λ n. t) (λ l. t) (λ n l. s)
 
 pub root-least : (x : Float) (xs : List Float) → Square x → Squares xs → foldl min (sqrt x) (map sqrt xs) ≡ sqrt (foldl min x xs)
 root-least x [] s t = refl
-root-least x (y ∷ ys) s t = ap (λ (z : Float). foldl min z (map sqrt ys)) (root-min x y s (t .0)) ∙ (root-least (min x y) ys (square-min x y s (t .0)) (t .1))
+root-least x (y ∷ ys) s t = ap (λ (z : Float). foldl min z (map sqrt ys)) (root-min x y s (t .0)) ∙ root-least (min x y) ys (square-min x y s (t .0)) (t .1)

@@ -35,6 +35,12 @@ nan-or nan = inl refl
 nan-or (inf s) = inr tt
 nan-or (fin s m e) = inr tt
 
+pub lt-nan : (x : Float) → (lt x nan ≡ false) × (lt nan x ≡ false)
+unfolding lt
+lt-nan nan = (refl, refl)
+lt-nan (inf s) = (refl, refl)
+lt-nan (fin s m e) = (refl, refl)
+
 -- ---- the two values of a comparison that holds
 pub lt-number : (x y : Float) → T (lt x y) → Number x × Number y
 unfolding lt isNan

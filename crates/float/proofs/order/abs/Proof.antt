@@ -1,12 +1,13 @@
 -- `float::abs` meets its contract: the pattern without its sign is that of the value without its sign.
 -- Rests on `Laws/Nan.antt` and `Laws/Pattern.antt`.
-use mathlib.Core.Path.{_≡_, refl, ap, _∙_}
+use mathlib.Core.Path.{refl, ap, _∙_}
 use lib.Dec.{T}
-use lib.Ieee.{Float, nan, inf, fin, binary64, fits, isNan, ofBits}
+use lib.Ieee.{binary64, fits, ofBits}
 use lib.Ieee.Bits.{ofBits-toBits}
+use lib.Ieee.Compare.{differs-from-itself}
 use Rattle.laws.specs.Truth.{yes}
 use Rattle.float.specs.Order.{abs}
-use Rattle.float.specs.Laws.Nan.{is-nan, is-number}
+use Rattle.float.specs.Laws.Nan.{is-number}
 use Rattle.float.specs.Laws.Pattern.{abs-fits, abs-pattern, pattern-number}
 use Rattle.float.proofs.order.abs.Statement.{statement}
 use Rattle.float.proofs.order.abs.Tie as tie
@@ -15,12 +16,6 @@ use Rattle.float.proofs.order.abs.Tie as tie
 held : (c : tie.Start) → T (fits binary64 (c .args .x))
 held c = yes (c .good .0 .1)
 
-nan-abs : (x : Float) → T (isNan x) → x ≡ abs x
-unfolding isNan abs
-nan-abs nan h = refl
-nan-abs (inf s) h = absurd h
-nan-abs (fin s m e) h = absurd h
-
 float-to-bits-result : tie.Need-float-to-bits-result
 float-to-bits-result c = is-number _ (c .if1 .left)
 
@@ -28,7 +23,7 @@ float-from-bits-result : tie.Need-float-from-bits-result
 float-from-bits-result c = pattern-number (c .before .args .x) (held (c .before)) (is-number _ (c .if1 .left))
 
 returns : tie.Need-returns
-returns c = nan-abs (c .before .args .x) (yes (is-nan (c .before .args .x) (c .if1 .taken)))
+returns c = rw (differs-from-itself (c .before .args .x) (yes (c .if1 .taken))) (unfold abs in refl)
 
 returns-2 : tie.Need-returns-2
 returns-2 c =

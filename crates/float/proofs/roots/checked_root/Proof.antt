@@ -1,22 +1,16 @@
 -- `float::checked_root` meets its contract: what is left after the square of the guess says which whole number is nearest.
 -- Rests on `Residual.antt`, and on the contract of `digit_root` where the guess is far.
-use mathlib.Core.Bool.{Bool}
-use Prim.Native.Nat.{ℕ, _+_, _*_, _/_, _%_, _^_}
+use Prim.Native.Nat.{_*_, _/_, _%_, _^_}
 use native.Mathlib.Omega.{arith}
-use lib.Dec.{ltb}
 use borrow.Author.Needs.{needs}
-use Rattle.float.proofs.Flag.{flag-fits, flags-fit}
+use Rattle.float.proofs.Flag.{flag-le, sum-lt, sum-fits}
 use Rattle.float.proofs.roots.Residual.{halves-lt, high-half, low-half, residual, rest, chosen}
 use Rattle.float.proofs.roots.checked_root.Statement.{statement}
 use Rattle.float.proofs.roots.checked_root.Tie as tie
 
--- the tests that all passed where the result is made from the guess
+-- where the result is made from the guess, all the tests have passed
 abbrev start : tie.Then7 → tie.Start
 start c = c .before .before .before .before .before .before .before
-
--- whether what is left is above n
-abbrev over : tie.Start → ℕ → Bool
-over s n = ltb n (rest (s .args .m) (s .args .r / 2 ^ 27) (s .args .r % 2 ^ 27))
 
 mul-square : tie.Need-mul-square
 mul-square c = omega (arith, halves-lt (high-half (c .args .r) (c .pre .1 .1)) (high-half (c .args .r) (c .pre .1 .1)))
@@ -58,9 +52,7 @@ cast-result : tie.Need-cast-result
 cast-result c = search needs
 
 add-result : tie.Need-add-result
-add-result c =
-    let s = start c in
-    flag-fits (s .args .r) (over s (s .args .r)) (s .pre .1 .1)
+add-result c = sum-fits _ _ (omega (arith, start c .pre)) (search flag-le)
 
 mul-result : tie.Need-mul-result
 mul-result c = search needs
@@ -72,9 +64,7 @@ cast-result-2 : tie.Need-cast-result-2
 cast-result-2 c = search needs
 
 add-result-3 : tie.Need-add-result-3
-add-result-3 c =
-    let s = start c in
-    flags-fit (s .args .r) (over s (s .args .r)) (over s (s .args .r * 3 + 2)) (s .pre .1 .1)
+add-result-3 c = sum-fits _ _ (sum-lt _ _ (start c .pre .1 .1) (search flag-le)) (search flag-le)
 
 returns : tie.Need-returns
 returns c =

@@ -1,10 +1,10 @@
 -- `float::root` meets its contract, in each of the four cases that its tests tell apart.
 -- Rests on `Tests.antt` and the contract of `root_bits`.
-use mathlib.Core.Path.{_≡_, sym, ap, _∙_, subst}
-use mathlib.Core.Bool.{not}
+use mathlib.Core.Path.{_≡_, ap, _∙_}
 use Prim.Native.Nat.{ℕ}
+use native.Mathlib.Omega.{arith}
 use lib.Dec.{T}
-use lib.Ieee.{Float, binary64, fits, nanBits, ofBits, toBits}
+use lib.Ieee.{Float, binary64, fits, ofBits, toBits}
 use lib.Ieee.Bits.{ofBits-toBits}
 use Rattle.laws.specs.Truth.{yes}
 use Rattle.float.specs.Root.{rootOf}
@@ -21,7 +21,7 @@ float-to-bits-bits : tie.Need-float-to-bits-bits
 float-to-bits-bits c = above-number (c .before .args .x) (c .if1 .taken)
 
 root-bits-requires : tie.Need-root-bits-requires
-root-bits-requires c κs = (above-pattern (c .before .before .args .x) (held (c .before .before)) (c .before .if1 .taken), c .if2 .taken)
+root-bits-requires c κs = (above-pattern (c .before .before .args .x) (held (c .before .before)) (c .before .if1 .taken), omega (arith, c .if2 .taken))
 
 -- the pattern that `root_bits` returns
 result : (x : Float) (r : ℕ) → T (fits binary64 x) → r ≡ toBits binary64 (rootOf binary64 (ofBits binary64 (toBits binary64 x))) → r ≡ toBits binary64 (rootOf binary64 x)
@@ -30,7 +30,7 @@ result x r f e = e ∙ ap (λ (y : Float). toBits binary64 (rootOf binary64 y)) 
 float-from-bits-result : tie.Need-float-from-bits-result
 float-from-bits-result c =
     let s = c .before .before .before in
-    subst (λ (b : ℕ). T (not (nanBits binary64 b))) (sym (result (s .args .x) (c .root-bits .result) (held s) (c .root-bits .ensures))) (pattern-number (s .args .x) (held s) (c .before .before .if1 .taken))
+    rw (result (s .args .x) (c .root-bits .result) (held s) (c .root-bits .ensures)) (pattern-number (s .args .x) (held s) (c .before .before .if1 .taken))
 
 returns : tie.Need-returns
 returns c =

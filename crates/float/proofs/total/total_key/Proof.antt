@@ -1,23 +1,18 @@
 -- `float::total_key` meets its contract: the key of a NaN is a constant, and any other value's is made of its pattern.
--- Rests on `Laws/Nan.antt`.
-use mathlib.Core.Path.{_≡_, refl}
+-- Rests on `Laws/Nan.antt` and `Laws/Total.antt`.
+use mathlib.Core.Path.{sym}
 use native.Mathlib.Omega.{arith}
-use lib.Dec.{T}
-use lib.Ieee.{Float, nan, inf, fin, binary64, isNan, toBits}
+use lib.Ieee.{binary64}
 use lib.Ieee.Bits.{toBits-lt}
+use lib.Ieee.Compare.{differs-from-itself}
 use borrow.Author.Needs.{needs}
 use Rattle.laws.specs.Truth.{yes}
 use Rattle.laws.specs.Choice.{picks}
 use Rattle.float.specs.Total.{totalKey}
-use Rattle.float.specs.Laws.Nan.{is-nan, is-number}
+use Rattle.float.specs.Laws.Nan.{is-number}
+use Rattle.float.specs.Laws.Total.{nan-key}
 use Rattle.float.proofs.total.total_key.Statement.{statement}
 use Rattle.float.proofs.total.total_key.Tie as tie
-
-nan-key : (x : Float) → T (isNan x) → 0xfff8_0000_0000_0000 ≡ totalKey x
-unfolding isNan totalKey toBits
-nan-key nan h = refl
-nan-key (inf s) h = absurd h
-nan-key (fin s m e) h = absurd h
 
 float-to-bits-bits : tie.Need-float-to-bits-bits
 float-to-bits-bits c = is-number (c .before .args .x) (c .if1 .left)
@@ -29,7 +24,7 @@ add-result : tie.Need-add-result
 add-result c = search needs
 
 returns : tie.Need-returns
-returns c = nan-key (c .before .args .x) (yes (is-nan (c .before .args .x) (c .if1 .taken)))
+returns c = rw (differs-from-itself (c .before .args .x) (yes (c .if1 .taken))) (sym nan-key)
 
 returns-2 : tie.Need-returns-2
 unfolding totalKey

@@ -5,7 +5,8 @@ use native.Mathlib.Nat.{le-of-lt}
 use lib.Dec.{T}
 use lib.Ieee.{binary64, fits, ofBits, neg}
 use Rattle.laws.specs.Truth.{yes, no}
-use Rattle.float.proofs.whole.Whole.{Sized, above-sized, below-sized, neg-sized, cut-asks, above-asks, in-float, cut-lt, cut-floor, above-le, below-floor, floor-far-above, floor-far-below, floor-zero}
+use Rattle.laws.specs.Casts.{in-float}
+use Rattle.float.proofs.whole.Whole.{Sized, above-sized, below-sized, neg-sized, cut-asks, above-asks, cut-lt, cut-floor, above-le, below-floor, floor-far-above, floor-far-below, floor-zero}
 use Rattle.float.proofs.whole.floor.Statement.{statement}
 use Rattle.float.proofs.whole.floor.Tie as tie
 

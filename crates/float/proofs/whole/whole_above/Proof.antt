@@ -5,10 +5,9 @@ use Prim.Native.Nat.{_<_, _^_}
 use native.Mathlib.Nat.{le-of-lt}
 use native.Mathlib.Omega.{arith}
 use borrow.Author.Needs.{needs}
-use lib.IntN.{pos}
-use lib.Ieee.{binary64, lt, ofInt}
-use Rattle.float.proofs.Flag.{flag-fits}
-use Rattle.float.proofs.whole.Whole.{Sized, above-sized, cut-asks, in-float, cut-lt, cut-above}
+use Rattle.laws.specs.Casts.{in-float}
+use Rattle.float.proofs.Flag.{flag-le, sum-fits}
+use Rattle.float.proofs.whole.Whole.{Sized, above-sized, cut-asks, cut-lt, cut-above}
 use Rattle.float.proofs.whole.whole_above.Statement.{statement}
 use Rattle.float.proofs.whole.whole_above.Tie as tie
 
@@ -28,9 +27,7 @@ cast-result : tie.Need-cast-result
 cast-result c = search needs
 
 add-result : tie.Need-add-result
-add-result c =
-    let n = c .before .truncating-f64-to-u64 .result in
-    flag-fits n (lt (ofInt binary64 (pos n)) (c .before .before .args .x)) (omega (arith, small (c .before)))
+add-result c = sum-fits _ _ (omega (arith, small (c .before))) (search flag-le)
 
 returns : tie.Need-returns
 returns c = cut-above (c .before .before .args .x) (c .before .truncating-f64-to-u64 .result) (c .before .truncating-f64-to-u64 .ensures) (sized (c .before .before))

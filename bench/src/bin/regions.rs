@@ -1,0 +1,59 @@
+//! Clearances on rings of several sizes, beside the Rust original.
+use bench::{Bits, line, time};
+use oracle::judge;
+use oracle::plotting::glyphs::discs::layers;
+use std::f64::consts::TAU;
+
+unsafe extern "C" {
+    fn probe_signed_clearance(
+        sizes: *const u64,
+        rings: usize,
+        coords: *const f64,
+        floats: usize,
+        x: f64,
+        y: f64,
+    ) -> f64;
+    fn probe_clearance_at_least(
+        sizes: *const u64,
+        rings: usize,
+        coords: *const f64,
+        floats: usize,
+        x: f64,
+        y: f64,
+        c: f64,
+    ) -> bool;
+}
+
+/// A star of n vertices, in 1/1024, of radius up to 10.
+fn star(n: usize, bits: &mut Bits) -> Vec<[i32; 2]> {
+    (0..n)
+        .map(|k| {
+            let (r, a) = (10240.0 * (0.8 + 0.2 * bits.unit()), TAU * k as f64 / n as f64);
+            [(r * a.cos()) as i32, (r * a.sin()) as i32]
+        })
+        .collect()
+}
+
+fn main() {
+    let mut bits = Bits(0x9e37_79b9_7f4a_7c15);
+    println!("{:<44} {:>12} {:>12} {:>7}", "clearance", "Rust", "ours", "times");
+    for n in [4, 16, 64, 256] {
+        let rings = vec![star(n, &mut bits)];
+        let piece = judge::piece_of(&rings);
+        let sizes = [n as u64];
+        let coords: Vec<f64> = rings.iter().flatten().flatten().map(|v| judge::units(*v)).collect();
+        let places: Vec<[f64; 2]> =
+            (0..100_000).map(|_| [11.0 * bits.unit(), 11.0 * bits.unit()]).collect();
+        let rust = |[x, y]: [f64; 2]| layers::signed_clearance(x, y, &piece);
+        let ours = |[x, y]: [f64; 2]| unsafe {
+            probe_signed_clearance(sizes.as_ptr(), 1, coords.as_ptr(), coords.len(), x, y)
+        };
+        line(&format!("signed, {n} edges"), time(&places, rust), time(&places, ours));
+        let c = 0.5;
+        let at_least = |[x, y]: [f64; 2]| unsafe {
+            probe_clearance_at_least(sizes.as_ptr(), 1, coords.as_ptr(), coords.len(), x, y, c)
+        };
+        assert!(places.iter().all(|&p| at_least(p) == (rust(p) >= c) && ours(p).to_bits() == rust(p).to_bits()));
+        line(&format!("at least {c}, {n} edges"), time(&places, |p| rust(p) >= c), time(&places, at_least));
+    }
+}

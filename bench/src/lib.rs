@@ -1,0 +1,37 @@
+//! What the programs share: random bits, and the time of a call.
+use std::hint::black_box;
+use std::time::Instant;
+
+pub struct Bits(pub u64);
+
+impl Bits {
+    pub fn draw(&mut self) -> u64 {
+        self.0 ^= self.0 << 13;
+        self.0 ^= self.0 >> 7;
+        self.0 ^= self.0 << 17;
+        self.0
+    }
+
+    /// A float from -1 to 1.
+    pub fn unit(&mut self) -> f64 {
+        (self.draw() >> 11) as f64 / (1u64 << 52) as f64 - 1.0
+    }
+}
+
+/// Nanoseconds a call, the best of five rounds over all values.
+pub fn time<T: Copy, R>(values: &[T], f: impl Fn(T) -> R) -> f64 {
+    let mut best = f64::INFINITY;
+    for _ in 0..5 {
+        let start = Instant::now();
+        for &x in values {
+            black_box(f(black_box(x)));
+        }
+        best = best.min(start.elapsed().as_secs_f64() * 1e9 / values.len() as f64);
+    }
+    best
+}
+
+/// A line of the table: the other's time, ours, and how many times as fast we are.
+pub fn line(name: &str, other: f64, ours: f64) {
+    println!("{name:<44} {other:>9.2} ns {ours:>9.2} ns {:>7.2}", other / ours);
+}

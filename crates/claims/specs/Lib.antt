@@ -1,0 +1,10 @@
+pub mod Apart
+pub mod Counts
+pub mod Fair
+pub mod FairExamples
+pub mod HandOut
+pub mod Relaxed
+pub mod Thrown
+pub mod Unshared
+pub mod Walk
+pub mod Whole

@@ -1,0 +1,12 @@
+pub mod Order
+pub mod Cells
+pub mod Heap
+pub mod Queue
+pub mod Sift
+pub mod Deepest
+pub mod Match
+pub mod Turns
+pub mod Search
+pub mod Fuel
+pub mod Halvings
+pub mod Plant

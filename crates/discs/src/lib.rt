@@ -1,0 +1,2 @@
+// discs.rs: regions over their pieces, the radius, and all marks.
+pub mod options;

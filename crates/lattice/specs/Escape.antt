@@ -1,0 +1,61 @@
+-- discs.rs, `escape_obstacles`: a blocked anchor moved to the nearest of the obstacles' exits. Definitions only.
+use mathlib.Core.Bool.{Bool, true, not, cond, _||_}
+use mathlib.Core.List.{List, [], _∷_, foldl}
+use Prim.Native.Nat.{Ordering, Ordering·lt, Ordering·eq, Ordering·gt}
+use lib.Ieee.{Float}
+use Rattle.laws.specs.Orders.{_thenBy_, isLt}
+use Rattle.float.specs.Ops.{_+ᶠ_, _-ᶠ_, _*ᶠ_, _<ᶠ_, 1ᶠ, ½ᶠ, literal}
+use Rattle.float.specs.Total.{totalCmp}
+use Rattle.glyphs.specs.declared.rect.Point.{Point}
+use Rattle.glyphs.specs.declared.rect.Rectangle.{Rectangle}
+use Rattle.glyphs.specs.Rect.{clearOfObstacles}
+use Rattle.regions.specs.Ring.{Piece}
+use Rattle.regions.specs.Clearance.{signedClearance}
+
+-- (x, y)
+abbrev pub point : Float → Float → Point
+point x y = record { x = x; y = y }
+
+-- (a.x() - b.x()).powi(2) + (a.y() - b.y()).powi(2)
+abbrev pub squaredDistance : Point → Point → Float
+squaredDistance a b = (a .x -ᶠ b .x) *ᶠ (a .x -ᶠ b .x) +ᶠ (a .y -ᶠ b .y) *ᶠ (a .y -ᶠ b .y)
+
+-- 1e-9
+abbrev pub 1e-9ᶠ : Float
+1e-9ᶠ = literal 0x3e11_2e0b_e826_d695
+
+-- `best`: none, or the squared distance and the candidate
+pub data Best : Type 0 where
+  none : Best
+  some : Float → Point → Best
+
+-- nearer to the anchor, then of smaller x, then of smaller y
+abbrev pub better : Best → Float → Point → Bool
+better none d p = true
+better (some best-d best-p) d p = isLt (totalCmp d best-d thenBy totalCmp (p .x) (best-p .x) thenBy totalCmp (p .y) (best-p .y))
+
+-- the axis exits of an obstacle, a hair past its clearance ring
+unfoldable pub exits : Point → Float → Rectangle → List Point
+exits anchor pad rect =
+    let half-w = ½ᶠ *ᶠ rect .width +ᶠ pad in
+    let half-h = ½ᶠ *ᶠ rect .height +ᶠ pad in
+    let cx = rect .center .x in
+    let cy = rect .center .y in
+    point (cx -ᶠ half-w) (anchor .y) ∷ point (cx +ᶠ half-w) (anchor .y) ∷ point (anchor .x) (cy -ᶠ half-h) ∷ point (anchor .x) (cy +ᶠ half-h) ∷ []
+
+unfoldable pub consider : Point → Piece → List Rectangle → Float → Best → Point → Best
+consider anchor piece obstacles clearance best p =
+    let d = squaredDistance p anchor in
+    cond (not (clearOfObstacles (p .x) (p .y) obstacles clearance) || signedClearance (p .x) (p .y) piece <ᶠ clearance) best
+    (cond (better best d p) (some d p) best)
+
+-- best.map_or(anchor, |(_, p)| p)
+abbrev pub orAnchor : Point → Best → Point
+orAnchor anchor none = anchor
+orAnchor anchor (some d p) = p
+
+unfoldable pub escapeObstacles : Point → Piece → List Rectangle → Float → Point
+escapeObstacles anchor piece obstacles clearance =
+    let pad = clearance *ᶠ (1ᶠ +ᶠ 1e-9ᶠ) in
+    cond (clearOfObstacles (anchor .x) (anchor .y) obstacles clearance) anchor
+    (orAnchor anchor (foldl (λ (best : Best) (rect : Rectangle). foldl (consider anchor piece obstacles clearance) best (exits anchor pad rect)) none obstacles))

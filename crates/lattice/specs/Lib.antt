@@ -1,0 +1,4 @@
+pub mod Context
+pub mod Escape
+pub mod Lattice
+pub mod Uniform

@@ -1,0 +1,2 @@
+// discs.rs: what a packing is at, escapes from obstacles, and the lattice packer.
+pub mod context;

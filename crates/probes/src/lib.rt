@@ -1,0 +1,98 @@
+// The inner layers for tests/differential alone, as its probes.h declares them: no entry of the product.
+ghost use mathlib.Core.Path.{_≡_};
+ghost use Prim.Native.Nat.{_*_, _/_, _<_, _≤_};
+ghost use lib.ListN.{length};
+ghost use Rattle.float.specs.Ops.{_≤ᶠ_};
+ghost use Rattle.regions.specs.Ring.{sum, pieceOf};
+ghost use Rattle.regions.specs.Area.{pieceArea};
+ghost use Rattle.regions.specs.Clearance.{signedClearance};
+ghost use Rattle.regions.specs.Inside.{pointInPolygon};
+use glyphs::bounds::Bounds;
+
+#[no_mangle]
+pub extern "C" fn probe_signed_clearance(sizes: &[usize], coords: &[f64], x: f64, y: f64) -> f64
+    requires { ⌜ (0 < length (now sizes)) × (sum (now sizes) * 2 ≤ length (now coords)) ⌝ }
+    ensures { λ r. ⌜ r ≡ signedClearance x y (pieceOf (now (sizes .entry)) (now (coords .entry))) ⌝ }
+{
+    regions::clearance::signed_clearance(x, y, sizes, coords)
+}
+
+#[no_mangle]
+pub extern "C" fn probe_clearance_at_least(
+    sizes: &[usize],
+    coords: &[f64],
+    x: f64,
+    y: f64,
+    c: f64,
+) -> bool
+    requires { ⌜ (0 < length (now sizes)) × (sum (now sizes) * 2 ≤ length (now coords)) ⌝ }
+    ensures { λ r. ⌜ r ≡ (c ≤ᶠ signedClearance x y (pieceOf (now (sizes .entry)) (now (coords .entry)))) ⌝ }
+{
+    regions::margin::clearance_at_least(x, y, sizes, coords, c)
+}
+
+#[no_mangle]
+pub extern "C" fn probe_point_in_polygon(ring: &[f64], x: f64, y: f64) -> u8 {
+    if regions::inside::point_in_polygon(x, y, ring) {
+        1
+    } else {
+        0
+    }
+}
+
+#[no_mangle]
+pub extern "C" fn probe_area(sizes: &[usize], coords: &[f64]) -> f64
+    requires { ⌜ (0 < length (now sizes)) × (sum (now sizes) * 2 ≤ length (now coords)) ⌝ }
+    ensures { λ r. ⌜ r ≡ pieceArea (pieceOf (now (sizes .entry)) (now (coords .entry))) ⌝ }
+{
+    regions::area::piece_area(sizes, coords)
+}
+
+#[no_mangle]
+pub extern "C" fn probe_ring_bounds(ring: &[f64], bounds: &mut [f64; 4]) -> u8 {
+    let Bounds::Box(min_x, max_x, min_y, max_y) = glyphs::bounds::ring_bounds(ring) else {
+        return 0;
+    };
+    bounds[0] = min_x;
+    bounds[1] = max_x;
+    bounds[2] = min_y;
+    bounds[3] = max_y;
+    1
+}
+
+fn near_flag(bounds: Bounds, obstacles: &[f64], k: usize, clearance: f64) -> u8
+    requires { ⌜ k < length (now obstacles) / 4 ⌝ }
+    ensures { λ r. ⌜ r ≤ 1 ⌝ }
+{
+    let Bounds::Box(min_x, max_x, min_y, max_y) = bounds else {
+        return 0;
+    };
+    let rect = glyphs::rect::obstacle(obstacles, k);
+    if glyphs::rect::is_near(rect, clearance, min_x, max_x, min_y, max_y) {
+        return 1;
+    }
+    0
+}
+
+#[no_mangle]
+pub extern "C" fn probe_obstacles_near(
+    sizes: &[usize],
+    coords: &[f64],
+    obstacles: &[f64],
+    clearance: f64,
+    near: &mut [u8],
+) -> u64
+    requires { ⌜ (0 < length (now sizes)) × (sum (now sizes) * 2 ≤ length (now coords)) × (length (now near) ≤ length (now obstacles) / 4) ⌝ }
+{
+    let n = sizes[0];
+    let bounds = glyphs::bounds::ring_bounds(regions::ring::ring_at(coords, 0, n));
+    let mut many = 0u64;
+    let mut k = 0;
+    while k < near.len() {
+        let flag = near_flag(bounds, obstacles, k, clearance);
+        near[k] = flag;
+        many = many + (flag as u64);
+        k += 1;
+    }
+    many
+}

@@ -1,0 +1,2 @@
+pub mod LowDiscrepancy
+pub mod Random

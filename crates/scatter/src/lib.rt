@@ -1,0 +1,1 @@
+// discs.rs: the low-discrepancy and the random packer.

@@ -1,0 +1,69 @@
+//! A list of comparisons, of which some may be left out.
+
+use std::env;
+use std::path::PathBuf;
+use std::process::ExitCode;
+
+use crate::tally::Tally;
+
+/// How much to run, and where what differs is kept.
+pub struct Run {
+    pub jobs: u64,
+    pub kept: PathBuf,
+    pub recorded: PathBuf,
+}
+
+/// A comparison, or `None` where the library lacks its symbol.
+pub type Comparison = (&'static str, Option<fn(&Run) -> Tally>);
+
+/// The named function where the symbol is there, else `None`.
+#[macro_export]
+macro_rules! where_present {
+    ($cfg:ident, $function:path) => {{
+        #[cfg($cfg)]
+        let function: Option<fn(&$crate::comparison::Run) -> $crate::tally::Tally> =
+            Some($function);
+        #[cfg(not($cfg))]
+        let function: Option<fn(&$crate::comparison::Run) -> $crate::tally::Tally> = None;
+        function
+    }};
+}
+
+/// Runs the comparisons that the arguments name (`NAME..`, none for all) with
+/// `--jobs N`; fails on a difference, or where a named one is left out.
+pub fn run(comparisons: &[Comparison]) -> ExitCode {
+    let mut wanted: Vec<String> = env::args().skip(1).collect();
+    let mut jobs = 5_000;
+    if let Some(at) = wanted.iter().position(|word| word == "--jobs") {
+        jobs = wanted[at + 1].parse().expect("--jobs is followed by a number");
+        wanted.drain(at..at + 2);
+    }
+    let folder =
+        |name: &str, default: &str| env::var_os(name).map_or_else(|| default.into(), PathBuf::from);
+    let run = Run {
+        jobs,
+        kept: folder("DIFFERENT", "different"),
+        recorded: folder("RECORDED", "tests/recorded/answers.txt"),
+    };
+    let mut good = true;
+    for name in &wanted {
+        if !comparisons.iter().any(|(known, _)| known == name) {
+            eprintln!("no comparison is named {name}");
+            good = false;
+        }
+    }
+    for (name, comparison) in comparisons {
+        let named = wanted.iter().any(|word| word == name);
+        if !named && !wanted.is_empty() {
+            continue;
+        }
+        match comparison {
+            Some(compare) => good &= compare(&run).report(),
+            None => {
+                println!("{name}: left out, the library has no such symbol");
+                good &= !named;
+            }
+        }
+    }
+    if good { ExitCode::SUCCESS } else { ExitCode::FAILURE }
+}
