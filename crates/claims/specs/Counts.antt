@@ -1,23 +1,18 @@
--- No packer places more marks than it is asked for.
+-- No packer places more marks than it is asked for; that relaxation keeps their number is a law of its crate.
 -- Rests on the lengths of parts and sorted lists.
-use mathlib.Core.Path.{_≡_, refl, sym, ap, subst, _∙_}
-use mathlib.Core.Bool.{Bool, true, false, not, cond, _&&_, _||_}
+use mathlib.Core.Path.{_≡_, refl, sym, ap, _∙_}
+use mathlib.Core.Bool.{Bool, true, false, cond, _||_}
 use mathlib.Core.Logic.{inl, inr}
-use mathlib.Core.List.{List, [], _∷_, _++_, map, foldl}
+use mathlib.Core.List.{List, [], _∷_, _++_}
 use Prim.Native.Nat.{ℕ, zero, suc, _+_, _-_, _<_, _≤_, Ordering, Ordering·lt, Ordering·eq, Ordering·gt}
 use native.Mathlib.Omega.{arith}
 use native.Mathlib.Nat.{eq-or-lt-of-le}
 use lib.Dec.{T, eqb, leb, eqb→eq}
-use lib.ListN.{length, take, getD, length-append, length-take, length-set}
-use lib.Ieee.{Float, nan}
+use lib.ListN.{length, take, length-append, length-take}
+use lib.Ieee.{Float}
 use borrow.Author.Tests.{lt-leb, le-leb, leb-false, eq-eqb, ne-eqb}
 use Rattle.laws.specs.Orders.{lt-or-le}
 use Rattle.laws.specs.Sort.{place, insert, sortBy}
-use Rattle.laws.specs.Lists.{upTo}
-use Rattle.float.specs.Ops.{_+ᶠ_, _*ᶠ_, _/ᶠ_, _≤ᶠ_, 0ᶠ, 1ᶠ, ½ᶠ}
-use Rattle.float.specs.Order.{hypot, min}
-use Rattle.glyphs.specs.Rect.{isFinite}
-use Rattle.relax.specs.declared.push.Force.{Force}
 use Rattle.glyphs.specs.declared.rect.Point.{Point}
 use Rattle.glyphs.specs.declared.rect.Rectangle.{Rectangle}
 use Rattle.glyphs.specs.declared.stream.Stream.{Stream}
@@ -27,11 +22,6 @@ use Rattle.lattice.specs.declared.context.PackCtx.{PackCtx}
 use Rattle.lattice.specs.Lattice.{HexCells, byAnchor, sortByAnchor, takeCells}
 use Rattle.scatter.specs.LowDiscrepancy.{Anchor, budget, candidate, admits, pass, passes}
 use Rattle.scatter.specs.Random.{Thrown, Dart, hit, miss, afterDart, throw, glyphs, throws}
-use Rattle.relax.specs.declared.Spreading.{Spreading}
-use Rattle.relax.specs.declared.field.Acceptance.{Acceptance}
-use Rattle.relax.specs.declared.field.Acceptance.the-variants.{Clear, Refused}
-use Rattle.relax.specs.Field.{at, forceOn, accepts}
-use Rattle.relax.specs.Scatter.{Scatter, Surroundings, around, settle, stepped, tryStep, relaxPoint, maxStepOf, relaxSweep, relaxSweeps, clearancesOf, idle, relaxScatter}
 
 -- ---- sorting
 length-place : {A : Type 0} (cmp : A → A → Ordering) (o : Ordering) (x y : A) (ys into : List A) → length into ≡ suc (length ys) → length (place cmp o x y ys into) ≡ suc (suc (length ys))
@@ -124,55 +114,3 @@ module _ (piece : Piece) (n attempts : ℕ) (ctx : PackCtx) (near : List Rectang
       go : (b : Bool) → length (cond b first (glyphs piece n attempts ctx near min-x max-x min-y max-y false (n - length (first .placed)) first) .placed) ≤ n
       go true = l
       go false = glyphs-count false (n - length (first .placed)) n first (omega (arith, l))
-
--- ---- relaxation moves marks and places none
-settled-count : (s t : Scatter) (i : ℕ) (c : Point) (a : Acceptance) → length (t .points) ≡ length (s .points) → length (settle s i c a t .points) ≡ length (s .points)
-unfolding settle
-settled-count s t i c (Clear d) e = length-set (s .points) i c
-settled-count s t i c Refused e = e
-
-tried-count : (e : Surroundings) (i : ℕ) (p : Point) (ux uy : Float) (tries : ℕ) (step : Float) (s : Scatter) → length (tryStep e i p ux uy tries step s .points) ≡ length (s .points)
-unfolding tryStep
-tried-count e i p ux uy zero step s = refl
-tried-count e i p ux uy (suc tries) step s =
-    let c = stepped p ux uy step in
-    settled-count s (tryStep e i p ux uy tries (step *ᶠ ½ᶠ) s) i c (accepts (e .field) (e .piece) (e .obstacles) c i (s .points) (getD (e .honoring) i false))
-    (tried-count e i p ux uy tries (step *ᶠ ½ᶠ) s)
-
-folded-count : {A : Type 0} (f : Scatter → A → Scatter) → ((s : Scatter) (a : A) → length (f s a .points) ≡ length (s .points)) → (s : Scatter) (xs : List A) → length (foldl f s xs .points) ≡ length (s .points)
-folded-count f h s [] = refl
-folded-count f h s (x ∷ xs) = folded-count f h (f s x) xs ∙ h s x
-
-point-count : (numbers : Spreading) (e : Surroundings) (maxStep : Float) (s : Scatter) (i : ℕ) → length (relaxPoint numbers e maxStep s i .points) ≡ length (s .points)
-unfolding relaxPoint
-point-count numbers e maxStep s i = go (not (isFinite m) || m ≤ᶠ 0ᶠ)
-  where
-    f : Force
-    f = forceOn (e .field) (e .piece) i (s .points) (getD (s .clearance) i nan)
-
-    m : Float
-    m = hypot (f .x) (f .y)
-
-    go : (b : Bool) → length (cond b s (tryStep e i (at (s .points) i) (f .x /ᶠ m) (f .y /ᶠ m) (suc (numbers .backtracks)) (maxStep *ᶠ min m 1ᶠ) s) .points) ≡ length (s .points)
-    go true = refl
-    go false = tried-count e i (at (s .points) i) (f .x /ᶠ m) (f .y /ᶠ m) (suc (numbers .backtracks)) (maxStep *ᶠ min m 1ᶠ) s
-
-sweep-count : (numbers : Spreading) (e : Surroundings) (s : Scatter) (sweep : ℕ) → length (relaxSweep numbers e s sweep .points) ≡ length (s .points)
-unfolding relaxSweep
-sweep-count numbers e s sweep =
-    let step = maxStepOf numbers (e .field .spacing) sweep in
-    folded-count (relaxPoint numbers e step) (point-count numbers e step) s (upTo (length (s .points)))
-
-pub relaxed-count : (numbers : Spreading) (points : List Point) (piece : Piece) (obstacles : List Rectangle) (spacing inset : Float) → length (relaxScatter numbers points piece obstacles spacing inset) ≡ length points
-unfolding relaxScatter relaxSweeps
-relaxed-count numbers points piece obstacles spacing inset = go (idle (length points) spacing)
-  where
-    env : Surroundings
-    env = around numbers points piece obstacles spacing inset
-
-    start : Scatter
-    start = record { points = points; clearance = clearancesOf piece points }
-
-    go : (b : Bool) → length (cond b points (foldl (relaxSweep numbers env) start (upTo (numbers .sweeps)) .points)) ≡ length points
-    go true = refl
-    go false = folded-count (relaxSweep numbers env) (sweep-count numbers env) start (upTo (numbers .sweeps))

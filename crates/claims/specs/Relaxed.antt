@@ -19,15 +19,32 @@ use Rattle.float.specs.Laws.Compare.{not-lt-le}
 use Rattle.glyphs.specs.declared.rect.Point.{Point}
 use Rattle.glyphs.specs.declared.rect.Rectangle.{Rectangle}
 use Rattle.glyphs.specs.Rect.{clearOfObstacles, isFinite}
-use Rattle.glyphs.specs.Spots as Spots
+use Rattle.glyphs.specs.Spots.{apart}
 use Rattle.regions.specs.Ring.{Piece}
 use Rattle.regions.specs.Clearance.{signedClearance}
 use Rattle.lattice.specs.Escape.{squaredDistance}
 use Rattle.relax.specs.declared.Spreading.{Spreading}
+use Rattle.relax.specs.declared.field.Field.{Field}
 use Rattle.relax.specs.declared.field.Acceptance.{Acceptance}
 use Rattle.relax.specs.declared.field.Acceptance.the-variants.{Clear, Refused}
 use Rattle.relax.specs.Field.{fieldOf, at, forceOn, accepts, clearOfOthers}
-use Rattle.relax.specs.Scatter.{Scatter, Surroundings, settle, stepped, tryStep, relaxPoint, maxStepOf, relaxSweep, relaxSweeps, honoringOf, clearancesOf, idle, relaxScatter}
+use Rattle.relax.specs.Scatter.{
+  Scatter,
+  Surroundings,
+  moved,
+  settle,
+  stepped,
+  tryStep,
+  relaxPoint,
+  maxStepOf,
+  relaxSweep,
+  relaxSweeps,
+  clearancesOf,
+  honoringOf,
+  idle,
+  around,
+  relaxScatter,
+}
 use Rattle.claims.specs.Walk.{Inset, Unblocked}
 
 -- ---- one element replaced
@@ -58,14 +75,14 @@ either false b t e = t
 
 module _ (spacing : Float) (R : Point → Point → Type 0) (near : (p q : Point) → T (squaredDistance p q ≥ᶠ spacing *ᶠ spacing) → R p q) (c : Point) where
   beyond : (i j : ℕ) (qs : List Point) → i < j → T (clearOfOthers (c .x) (c .y) (spacing *ᶠ spacing) i j qs) → Every (R c) qs
-  unfolding clearOfOthers Spots.apart
+  unfolding clearOfOthers apart
   beyond i j [] h t = tt
   beyond i j (q ∷ qs) h t =
       let s = split (eqb j i || squaredDistance c q ≥ᶠ spacing *ᶠ spacing) (clearOfOthers (c .x) (c .y) (spacing *ᶠ spacing) i (j + 1) qs) t in
       (near c q (either (eqb j i) _ (s .0) (ne-eqb j i (λ (e : j ≡ i). omega arith))), beyond i (j + 1) qs (omega arith) (s .1))
 
   others : (i j k : ℕ) (qs : List Point) → j + k ≡ i → T (clearOfOthers (c .x) (c .y) (spacing *ᶠ spacing) i j qs) → Others R c k qs
-  unfolding clearOfOthers Spots.apart
+  unfolding clearOfOthers apart
   others i j zero [] e t = tt
   others i j (suc k) [] e t = tt
   others i j zero (q ∷ qs) e t =
@@ -80,8 +97,11 @@ module _
     (numbers : Spreading) (piece : Piece) (obstacles : List Rectangle) (spacing inset : Float) (strict : Bool)
     (R : Point → Point → Type 0) (both : (p q : Point) → R p q → R q p) (near : (p q : Point) → T (squaredDistance p q ≥ᶠ spacing *ᶠ spacing) → R p q)
     (known : (x y : Float) → Number (signedClearance x y piece)) (inset-known : Number inset) where
-  abbrev around : List Bool → Surroundings
-  around honoring = record { field = fieldOf numbers spacing inset; piece = piece; obstacles = obstacles; honoring = honoring }
+  abbrev field : Field
+  field = fieldOf numbers spacing inset
+
+  abbrev surroundings : List Bool → Surroundings
+  surroundings honoring = record { field = field; piece = piece; obstacles = obstacles; honoring = honoring }
 
   pub record Loose (honoring : List Bool) (s : Scatter) : Type 0 where
     pub insets : Every (Inset piece inset) (s .points)
@@ -99,7 +119,7 @@ module _
   Judged i honor points c (Clear d) = Fit i honor points c
   Judged i honor points c Refused = Unit {0}
 
-  judged : (i : ℕ) (honor : Bool) (points : List Point) (c : Point) → Judged i honor points c (accepts (fieldOf numbers spacing inset) piece obstacles c i points honor)
+  judged : (i : ℕ) (honor : Bool) (points : List Point) (c : Point) → Judged i honor points c (accepts field piece obstacles c i points honor)
   unfolding accepts fieldOf
   judged i honor points c =
       go (signedClearance (c .x) (c .y) piece <ᶠ inset) honor (clearOfObstacles (c .x) (c .y) obstacles inset) (clearOfOthers (c .x) (c .y) (spacing *ᶠ spacing) i 0 points)
@@ -127,12 +147,12 @@ module _
       }
   settled honoring i s c Refused otherwise l j o = o
 
-  tried : (honoring : List Bool) (i : ℕ) (p : Point) (ux uy : Float) (tries : ℕ) (step : Float) (s : Scatter) → Loose honoring s → Loose honoring (tryStep (around honoring) i p ux uy tries step s)
+  tried : (honoring : List Bool) (i : ℕ) (p : Point) (ux uy : Float) (tries : ℕ) (step : Float) (s : Scatter) → Loose honoring s → Loose honoring (tryStep (surroundings honoring) i p ux uy tries step s)
   unfolding tryStep
   tried honoring i p ux uy zero step s l = l
   tried honoring i p ux uy (suc tries) step s l =
       let c = stepped p ux uy step in
-      settled honoring i s c (accepts (fieldOf numbers spacing inset) piece obstacles c i (s .points) (getD honoring i false)) (tryStep (around honoring) i p ux uy tries (step *ᶠ ½ᶠ) s) l
+      settled honoring i s c (accepts field piece obstacles c i (s .points) (getD honoring i false)) (tryStep (surroundings honoring) i p ux uy tries (step *ᶠ ½ᶠ) s) l
       (judged i (getD honoring i false) (s .points) c)
       (tried honoring i p ux uy tries (step *ᶠ ½ᶠ) s l)
 
@@ -140,14 +160,14 @@ module _
   still honoring true s t l m = l
   still honoring false s t l m = m
 
-  at-point : (honoring : List Bool) (maxStep : Float) (s : Scatter) (i : ℕ) → Loose honoring s → Loose honoring (relaxPoint numbers (around honoring) maxStep s i)
+  at-point : (honoring : List Bool) (maxStep : Float) (s : Scatter) (i : ℕ) → Loose honoring s → Loose honoring (relaxPoint numbers (surroundings honoring) maxStep s i)
   unfolding relaxPoint
   at-point honoring maxStep s i l =
       let p = at (s .points) i in
-      let f = forceOn (fieldOf numbers spacing inset) piece i (s .points) (getD (s .clearance) i nan) in
+      let f = forceOn field piece i (s .points) (getD (s .clearance) i nan) in
       let m = hypot (f .x) (f .y) in
       still honoring (not (isFinite m) || m ≤ᶠ 0ᶠ) s
-      (tryStep (around honoring) i p (f .x /ᶠ m) (f .y /ᶠ m) (suc (numbers .backtracks)) (maxStep *ᶠ min m 1ᶠ) s) l
+      (tryStep (surroundings honoring) i p (f .x /ᶠ m) (f .y /ᶠ m) (suc (numbers .backtracks)) (maxStep *ᶠ min m 1ᶠ) s) l
       (tried honoring i p (f .x /ᶠ m) (f .y /ᶠ m) (suc (numbers .backtracks)) (maxStep *ᶠ min m 1ᶠ) s l)
 
   -- what a turn keeps, all turns keep
@@ -155,11 +175,11 @@ module _
   folded honoring f h s [] l = l
   folded honoring f h s (x ∷ xs) l = folded honoring f h (f s x) xs (h s x l)
 
-  swept : (honoring : List Bool) (s : Scatter) (sweep : ℕ) → Loose honoring s → Loose honoring (relaxSweep numbers (around honoring) s sweep)
+  swept : (honoring : List Bool) (s : Scatter) (sweep : ℕ) → Loose honoring s → Loose honoring (relaxSweep numbers (surroundings honoring) s sweep)
   unfolding relaxSweep
   swept honoring s sweep l =
-      let step = maxStepOf numbers (fieldOf numbers spacing inset .spacing) sweep in
-      folded honoring (relaxPoint numbers (around honoring) step) (at-point honoring step) s (upTo (length (s .points))) l
+      let maxStep = maxStepOf numbers (field .spacing) sweep in
+      folded honoring (relaxPoint numbers (surroundings honoring) maxStep) (at-point honoring maxStep) s (upTo (length (s .points))) l
 
   -- the marks after all sweeps
   pub record Relaxed (points : List Point) : Type 0 where
@@ -167,7 +187,9 @@ module _
     pub unblocked : T strict → Every (Unblocked obstacles inset) points
     pub apart : Pairwise R points
 
-  flagged : (points : List Point) → (T strict → Every (Unblocked obstacles inset) points) → (i : ℕ) → i < length points → T strict → T (getD (honoringOf obstacles inset points) i false)
+  flagged :
+      (points : List Point) → (T strict → Every (Unblocked obstacles inset) points) → (i : ℕ) → i < length points → T strict
+      → T (getD (honoringOf obstacles inset points) i false)
   unfolding honoringOf
   flagged points h i l t = go points i (h t) l
     where
@@ -176,8 +198,12 @@ module _
       go (p ∷ ps) zero e l = e .0
       go (p ∷ ps) (suc i) e l = go ps i (e .1) (omega arith)
 
+  all-swept : (honoring : List Bool) (s : Scatter) → Loose honoring s → Loose honoring (relaxSweeps numbers (surroundings honoring) s)
+  unfolding relaxSweeps
+  all-swept honoring s l = folded honoring (relaxSweep numbers (surroundings honoring)) (swept honoring) s (upTo (numbers .sweeps)) l
+
   pub relaxed : (points : List Point) → Relaxed points → Relaxed (relaxScatter numbers points piece obstacles spacing inset)
-  unfolding relaxScatter relaxSweeps
+  unfolding relaxScatter
   relaxed points r = go (idle (length points) spacing)
     where
       honoring : List Bool
@@ -187,10 +213,10 @@ module _
       start = record { points = points; clearance = clearancesOf piece points }
 
       end : Scatter
-      end = foldl (relaxSweep numbers (around honoring)) start (upTo (numbers .sweeps))
+      end = relaxSweeps numbers (surroundings honoring) start
 
       l : Loose honoring end
-      l = folded honoring (relaxSweep numbers (around honoring)) (swept honoring) start (upTo (numbers .sweeps)) (record { insets = r .insets; unblocked = r .unblocked; apart = r .apart; flags = flagged points (r .unblocked) })
+      l = all-swept honoring start (record { insets = r .insets; unblocked = r .unblocked; apart = r .apart; flags = flagged points (r .unblocked) })
 
       go : (b : Bool) → Relaxed (cond b points (end .points))
       go true = r

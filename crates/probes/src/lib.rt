@@ -3,10 +3,13 @@ ghost use mathlib.Core.Path.{_≡_};
 ghost use Prim.Native.Nat.{_*_, _/_, _<_, _≤_};
 ghost use lib.ListN.{length};
 ghost use Rattle.float.specs.Ops.{_≤ᶠ_};
+ghost use Rattle.glyphs.specs.Rect.{rectangles};
+ghost use Rattle.glyphs.specs.Spots.{spotsOf, flat};
 ghost use Rattle.regions.specs.Ring.{sum, pieceOf};
 ghost use Rattle.regions.specs.Area.{pieceArea};
 ghost use Rattle.regions.specs.Clearance.{signedClearance};
 ghost use Rattle.regions.specs.Inside.{pointInPolygon};
+ghost use Rattle.relax.specs.Scatter.{source, relaxScatter};
 use glyphs::bounds::Bounds;
 
 #[no_mangle]
@@ -95,4 +98,33 @@ pub extern "C" fn probe_obstacles_near(
         k += 1;
     }
     many
+}
+
+// The marks, at most 2,000, with the source's numbers.
+#[no_mangle]
+pub extern "C" fn probe_relax_scatter(
+    sizes: &[usize],
+    coords: &[f64],
+    obstacles: &[f64],
+    spacing: f64,
+    inset: f64,
+    spots: &mut [f64],
+)
+    requires { ⌜ (0 < length (now sizes)) × (sum (now sizes) * 2 ≤ length (now coords)) × (length (now spots) ≡ length (now spots) / 2 * 2) × (length (now spots) / 2 ≤ 2000) ⌝ }
+    ensures { λ _. ⌜ now (spots .exit) ≡ flat (relaxScatter source (spotsOf (now (spots .entry))) (pieceOf (now (sizes .entry)) (now (coords .entry))) (rectangles (now (obstacles .entry))) spacing inset) ⌝ }
+{
+    let n = spots.len() / 2;
+    let mut clearances = [0.0; 2000];
+    let mut honoring = [0.0; 2000];
+    relax::scatter::relax_scatter(
+        relax::Spreading::SOURCE,
+        spots,
+        &mut clearances[..n],
+        &mut honoring[..n],
+        sizes,
+        coords,
+        obstacles,
+        spacing,
+        inset,
+    );
 }
