@@ -10,6 +10,7 @@ ghost use Rattle.regions.specs.Area.{pieceArea};
 ghost use Rattle.regions.specs.Clearance.{signedClearance};
 ghost use Rattle.regions.specs.Inside.{pointInPolygon};
 ghost use Rattle.relax.specs.Scatter.{source, relaxScatter};
+use deepest::search::Deepest;
 use glyphs::bounds::Bounds;
 
 #[no_mangle]
@@ -127,4 +128,65 @@ pub extern "C" fn probe_relax_scatter(
         spacing,
         inset,
     );
+}
+
+// Whether a search has room, with as many cells as are lent.
+fn has_room(sizes: &[usize], coords: &[f64], precision: f64, cells: &mut [f64]) -> bool
+    requires { ⌜ (0 < length (now sizes)) × (sum (now sizes) * 2 ≤ length (now coords)) × (length (now cells) ≤ 500000) ⌝ }
+{
+    let Deepest::Full = deepest::search::deepest_point(sizes, coords, precision, cells) else {
+        return true;
+    };
+    false
+}
+
+// The most cells that wait at once in a search that has room with 1,600: the least number with which it has room.
+fn most_waiting(sizes: &[usize], coords: &[f64], precision: f64, cells: &mut [f64]) -> usize
+    requires { ⌜ (0 < length (now sizes)) × (sum (now sizes) * 2 ≤ length (now coords)) × (8000 ≤ length (now cells)) ⌝ }
+    ensures { λ r. ⌜ r ≤ 1600 ⌝ }
+{
+    let mut low = 0;
+    let mut span = 1600;
+    while 0 < span {
+        let half = span / 2;
+        let n = (low + half) * 5;
+        if has_room(sizes, coords, precision, &mut cells[..n]) {
+            span = half;
+        } else {
+            low = low + half + 1;
+            span = span - half - 1;
+        }
+    }
+    low
+}
+
+#[no_mangle]
+pub extern "C" fn probe_deepest_point(
+    sizes: &[usize],
+    coords: &[f64],
+    precision: f64,
+    first: &mut [f64],
+    second: &mut [f64],
+    found: &mut [f64; 3],
+    waiting: &mut u32,
+) -> u8
+    requires { ⌜ (0 < length (now sizes)) × (sum (now sizes) * 2 ≤ length (now coords)) × (8000 ≤ length (now first)) ⌝ }
+{
+    match deepest::search::deepest_point(sizes, coords, precision, &mut first[..8000]) {
+        Deepest::Full => {
+            *waiting = 1601;
+            15
+        }
+        Deepest::Nothing => {
+            *waiting = most_waiting(sizes, coords, precision, first) as u32;
+            0
+        }
+        Deepest::Found(x, y, d) => {
+            *waiting = most_waiting(sizes, coords, precision, first) as u32;
+            found[0] = x;
+            found[1] = y;
+            found[2] = d;
+            1
+        }
+    }
 }
