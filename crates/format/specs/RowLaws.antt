@@ -7,7 +7,7 @@ use mathlib.Core.List.{List, [], _∷_, _++_, map, flatten, flatMap}
 use native.Mathlib.Omega.{arith}
 use native.Mathlib.Nat.{zero-add}
 use native.Mathlib.Numerals.{add-one}
-use lib.ListN.{length, set, length-append}
+use lib.ListN.{length, getD, set, length-append}
 use lib.Seq.{sets, sets-eq}
 use lib.Dec.{leb, eqb}
 use borrow.Author.Needs.{needs}
@@ -180,6 +180,21 @@ module _ {S : Type 0} (next : S → S) where
     unfolding flat
     put-end out k zero at h e = sym e
     put-end out k (suc n) at h e = absurd (omega arith)
+
+-- ---- one of them
+
+module _ {S : Type 0} (next : S → S) where
+  pub faults-at : (fault : S → ℕ) (n : ℕ) (at : S) → faults fault next n at ≡ 0 → (i : ℕ) → i < n → fault (past next i at) ≡ 0
+  unfolding faults past
+  faults-at fault zero at e i h = absurd (omega arith)
+  faults-at fault (suc n) at e zero h = both (fault at) (faults fault next n (next at)) e .0
+  faults-at fault (suc n) at e (suc i) h = faults-at fault n (next at) (both (fault at) (faults fault next n (next at)) e .1) i (omega arith)
+
+  pub each-at : {A : Type 0} (view : S → A) (n : ℕ) (at : S) (d : A) (i : ℕ) → i < n → getD (each view next n at) i d ≡ view (past next i at)
+  unfolding each past
+  each-at view zero at d i h = absurd (omega arith)
+  each-at view (suc n) at d zero h = refl
+  each-at view (suc n) at d (suc i) h = each-at view n (next at) d i (omega arith)
 
 -- ---- the flat list is the list of what they are, end to end
 

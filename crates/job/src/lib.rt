@@ -2,4 +2,5 @@
 pub mod head;
 pub mod keys;
 pub mod read;
+pub mod room;
 pub mod zones;
