@@ -12,7 +12,7 @@ use lib.Ieee.{Float, nan, isNan, lt}
 use borrow.Author.Tests.{ne-eqb, eq-eqb}
 use Rattle.laws.specs.Every.{Every, Pairwise}
 use Rattle.laws.specs.Lists.{upTo, getD-map}
-use Rattle.float.specs.Ops.{_-ᶠ_, _*ᶠ_, _+ᶠ_, _/ᶠ_, _<ᶠ_, _≤ᶠ_, _≥ᶠ_, 0ᶠ, 1ᶠ, ½ᶠ}
+use Rattle.float.specs.Ops.{_-ᶠ_, _*ᶠ_, _/ᶠ_, _<ᶠ_, _≤ᶠ_, _≥ᶠ_, 0ᶠ, 1ᶠ, ½ᶠ}
 use Rattle.float.specs.Order.{hypot, min}
 use Rattle.float.specs.Laws.Nan.{Number}
 use Rattle.float.specs.Laws.Compare.{not-lt-le}
@@ -28,23 +28,7 @@ use Rattle.relax.specs.declared.field.Field.{Field}
 use Rattle.relax.specs.declared.field.Acceptance.{Acceptance}
 use Rattle.relax.specs.declared.field.Acceptance.the-variants.{Clear, Refused}
 use Rattle.relax.specs.Field.{fieldOf, at, forceOn, accepts, clearOfOthers}
-use Rattle.relax.specs.Scatter.{
-  Scatter,
-  Surroundings,
-  moved,
-  settle,
-  stepped,
-  tryStep,
-  relaxPoint,
-  maxStepOf,
-  relaxSweep,
-  relaxSweeps,
-  clearancesOf,
-  honoringOf,
-  idle,
-  around,
-  relaxScatter,
-}
+use Rattle.relax.specs.Scatter.{Scatter, Surroundings, settle, stepped, tryStep, relaxPoint, maxStepOf, relaxSweep, relaxSweeps, clearancesOf, honoringOf, idle, relaxScatter}
 use Rattle.claims.specs.Walk.{Inset, Unblocked}
 
 -- ---- one element replaced

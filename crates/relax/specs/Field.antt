@@ -1,6 +1,6 @@
 -- relax.rs, `Field`: the push on a mark, the clearance's gradient, and whether a mark may move to a place. Definitions only.
 -- `Field` is the source's without the piece and the obstacles, which stand beside it.
-use mathlib.Core.Bool.{Bool, true, false, not, cond, _&&_, _||_}
+use mathlib.Core.Bool.{Bool, true, not, cond, _&&_, _||_}
 use mathlib.Core.List.{List, [], _∷_}
 use Prim.Native.Nat.{ℕ, _+_}
 use lib.Dec.{eqb}

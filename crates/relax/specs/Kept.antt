@@ -2,7 +2,7 @@
 -- Rests on the definitions: a mark moves only with the clearance that its acceptance found.
 use mathlib.Core.Path.{_≡_, refl, _∙_}
 use mathlib.Core.Bool.{Bool, true, false, not, cond, _&&_, _||_}
-use mathlib.Core.List.{List, [], _∷_, foldl, map}
+use mathlib.Core.List.{List, [], _∷_, foldl}
 use Prim.Native.Nat.{ℕ, zero, suc}
 use lib.ListN.{length, getD, length-set}
 use lib.Ieee.{Float, nan}
@@ -15,7 +15,6 @@ use Rattle.glyphs.specs.Rect.{clearOfObstacles, isFinite}
 use Rattle.regions.specs.Ring.{Piece}
 use Rattle.regions.specs.Clearance.{signedClearance}
 use Rattle.relax.specs.declared.Spreading.{Spreading}
-use Rattle.relax.specs.declared.field.Field.{Field}
 use Rattle.relax.specs.declared.field.Acceptance.the-variants.{Clear, Refused}
 use Rattle.relax.specs.Field.{at, forceOn, clearOfOthers, accepts}
 use Rattle.relax.specs.Scatter.{
@@ -108,7 +107,7 @@ unfolding clearancesOf
 kept-clearances numbers e s h =
     keeps-sweeps e (λ (t : Scatter). t .clearance ≡ clearancesOf (e .piece) (t .points)) (λ t i p k. rw (k, map-set)) numbers s h
 
-pub kept-count : (numbers : Spreading) (e : Surroundings) (s : Scatter) → length (relaxSweeps numbers e s .points) ≡ length (s .points)
+kept-count : (numbers : Spreading) (e : Surroundings) (s : Scatter) → length (relaxSweeps numbers e s .points) ≡ length (s .points)
 kept-count numbers e s =
     keeps-sweeps e (λ (t : Scatter). length (t .points) ≡ length (s .points)) (λ t i p k. length-set (t .points) i p ∙ k) numbers s refl
 

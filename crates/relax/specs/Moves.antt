@@ -1,9 +1,9 @@
 -- A mark's part of a sweep, parted: first where it moves to, which changes nothing, and then the move. The law says that this is `relaxPoint`.
 -- Rests on the definitions.
-use mathlib.Core.Path.{_≡_, refl, ap, _∙_}
+use mathlib.Core.Path.{_≡_, refl, sym, ap, _∙_}
 use mathlib.Core.Bool.{Bool, true, false, not, cond, _||_}
 use mathlib.Core.List.{List, map}
-use Prim.Native.Nat.{ℕ, zero, suc, _<_}
+use Prim.Native.Nat.{ℕ, zero, suc, _/_, _<_}
 use lib.ListN.{length, getD}
 use lib.Ieee.{Float, nan}
 use Rattle.laws.specs.Lists.{getD-map}
@@ -12,7 +12,7 @@ use Rattle.float.specs.Order.{hypot, min}
 use Rattle.glyphs.specs.declared.rect.Point.{Point}
 use Rattle.glyphs.specs.declared.rect.Rectangle.{Rectangle}
 use Rattle.glyphs.specs.Rect.{rectangles, isFinite}
-use Rattle.glyphs.specs.Spots.{spotsOf}
+use Rattle.glyphs.specs.Spots.{spotAt, spotsOf, spots-at}
 use Rattle.regions.specs.Ring.{Piece, pieceOf}
 use Rattle.relax.specs.Field.{at, forceOn, accepts}
 use Rattle.relax.specs.Scatter.{Scatter, Surroundings, moved, settle, stepped, tryStep, relaxPoint}
@@ -110,23 +110,26 @@ relax-point numbers e maxStep s i =
     ap (cond still s) (try-step e i s towards tries step)
     ∙ settled-cond s i still (firstAccepted (e .field) (e .piece) (e .obstacles) i (s .points) (getD (e .honoring) i false) towards tries step)
 
--- one try, from the place p
-module _ (field : Field) (piece : Piece) (obstacles : List Rectangle) (i : ℕ) (points : List Point) (honoring : Bool) (towards : Force) where
-  module _ (p : Point) (e : at points i ≡ p) (tries : ℕ) (step : Float) where
+-- one try of the mark i of a list of coordinates, which stands at p
+module _ (field : Field) (piece : Piece) (obstacles : List Rectangle) (i : ℕ) (spots : List Float) (honoring : Bool) (towards : Force) where
+  module _ (within : i < length spots / 2) (p : Point) (e : p ≡ spotAt spots i) (tries : ℕ) (step : Float) where
+    stands : at (spotsOf spots) i ≡ p
+    stands = spots-at spots i (record { x = nan; y = nan }) within ∙ sym e
+
     pub first-refused :
-        accepts field piece obstacles (stepped p (towards .x) (towards .y) step) i points honoring ≡ Refused
-        → firstAccepted field piece obstacles i points honoring towards (suc tries) step
-        ≡ firstAccepted field piece obstacles i points honoring towards tries (step *ᶠ ½ᶠ)
+        accepts field piece obstacles (stepped p (towards .x) (towards .y) step) i (spotsOf spots) honoring ≡ Refused
+        → firstAccepted field piece obstacles i (spotsOf spots) honoring towards (suc tries) step
+        ≡ firstAccepted field piece obstacles i (spotsOf spots) honoring towards tries (step *ᶠ ½ᶠ)
     unfolding firstAccepted orElse
-    first-refused h = rw (e, h)
+    first-refused h = rw (stands, h)
 
     pub first-clear :
-        (c : Float) → accepts field piece obstacles (stepped p (towards .x) (towards .y) step) i points honoring ≡ Clear c
-        → firstAccepted field piece obstacles i points honoring towards (suc tries) step
+        (c : Float) → accepts field piece obstacles (stepped p (towards .x) (towards .y) step) i (spotsOf spots) honoring ≡ Clear c
+        → firstAccepted field piece obstacles i (spotsOf spots) honoring towards (suc tries) step
         ≡ To (p .x +ᶠ towards .x *ᶠ step) (p .y +ᶠ towards .y *ᶠ step) c
     unfolding firstAccepted orElse
-    first-clear c h = rw (e, h)
+    first-clear c h = rw (stands, h)
 
-  pub none-accepted : (step : Float) → firstAccepted field piece obstacles i points honoring towards zero step ≡ Stay
+  pub none-accepted : (step : Float) → firstAccepted field piece obstacles i (spotsOf spots) honoring towards zero step ≡ Stay
   unfolding firstAccepted
   none-accepted step = refl

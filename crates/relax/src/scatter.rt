@@ -6,7 +6,6 @@ ghost use lib.ListN.{length};
 ghost use Rattle.glyphs.specs.Rect.{rectangles};
 ghost use Rattle.glyphs.specs.Spots.{spotsOf, flat};
 ghost use Rattle.regions.specs.Ring.{sum, pieceOf};
-ghost use Rattle.relax.specs.Field.{fieldOf};
 ghost use Rattle.relax.specs.Scatter.{maxStepOf, relaxSweep, relaxSweeps, relaxScatter, clearancesOf, honoringOf, idle};
 ghost use Rattle.relax.specs.Moves.{scatterOf, surroundings, flagOf};
 use crate::Spreading;

@@ -1,6 +1,6 @@
 -- `apart_from_all` meets its contract. The invariant of both loops: the answer is that of the marks from mark k on.
 -- Rests on the laws of `all` over a block, over one element and over none.
-use mathlib.Core.Path.{_≡_, refl, _∙_}
+use mathlib.Core.Path.{_≡_, refl}
 use Prim.Native.Nat.{_≤_, _<_, _-_, _/_}
 use native.Mathlib.Omega.{arith}
 use lib.ListN.{length, drop}

@@ -1,6 +1,6 @@
 -- `apart_from_eight` meets its contract. The invariant: `ok` is the answer for the first j of the eight.
 -- Rests on the laws of `all` over the first elements.
-use mathlib.Core.Path.{_≡_, refl, sym, _∙_}
+use mathlib.Core.Path.{_≡_, refl, _∙_}
 use Prim.Native.Nat.{_≤_, _<_, _-_, _+_}
 use native.Mathlib.Omega.{arith}
 use lib.ListN.{length, getD, take, drop, length-drop}

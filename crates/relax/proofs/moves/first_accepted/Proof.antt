@@ -5,9 +5,8 @@ use Prim.Native.Nat.{suc, _-_}
 use native.Mathlib.Omega.{arith}
 use borrow.Author.Needs.{needs}
 use Rattle.glyphs.specs.Rect.{rectangles}
-use Rattle.glyphs.specs.Spots.{spotsOf, spots-at}
+use Rattle.glyphs.specs.Spots.{spotsOf}
 use Rattle.regions.specs.Ring.{pieceOf}
-use Rattle.relax.specs.Field.{at}
 use Rattle.relax.specs.Moves.{firstAccepted, first-refused, first-clear, none-accepted}
 use Rattle.relax.proofs.moves.first_accepted.Statement.{statement}
 use Rattle.relax.proofs.moves.first_accepted.Tie as tie
@@ -25,12 +24,11 @@ returns c =
     let a = c .before .before .before .before .before .before .before .before .before .before .before .before .before .before .args in
     let l = c .before .before .before .before .before .before .before .before .loop in
     let q = c .before .before .before .before .before .before .before .before .before .spot in
-    let points = spotsOf (a .spots .now) in
-    let p : at points (a .i) ≡ q .result = rw (spots-at (a .spots .now) (a .i) _ (omega arith), q .ensures) in
+    let piece = pieceOf (a .sizes .now) (a .coords .now) in
+    let obstacles = rectangles (a .obstacles .now) in
     rw (
       l .inv,
-      first-clear (a .field) (pieceOf (a .sizes .now) (a .coords .now)) (rectangles (a .obstacles .now)) (a .i) points (a .honoring) (a .towards) (q .result) p (l .left)
-          (l .step)
+      first-clear (a .field) piece obstacles (a .i) (a .spots .now) (a .honoring) (a .towards) (omega arith) (q .result) (q .ensures) (l .left) (l .step)
           (c .before .answer .given .0 .0)
           (sym (c .before .before .before .accepts .ensures) ∙ c .before .answer .given .1),
     )
@@ -40,12 +38,11 @@ returns-2 c =
     let a = c .before .before .before .before .before .before .before .before .before .before .before .before .before .before .args in
     let l = c .before .before .before .before .before .before .before .before .loop in
     let q = c .before .before .before .before .before .before .before .before .before .spot in
-    let points = spotsOf (a .spots .now) in
-    let p : at points (a .i) ≡ q .result = rw (spots-at (a .spots .now) (a .i) _ (omega arith), q .ensures) in
+    let piece = pieceOf (a .sizes .now) (a .coords .now) in
+    let obstacles = rectangles (a .obstacles .now) in
     rw (
       l .inv,
-      first-refused (a .field) (pieceOf (a .sizes .now) (a .coords .now)) (rectangles (a .obstacles .now)) (a .i) points (a .honoring) (a .towards) (q .result) p (l .left)
-          (l .step)
+      first-refused (a .field) piece obstacles (a .i) (a .spots .now) (a .honoring) (a .towards) (omega arith) (q .result) (q .ensures) (l .left) (l .step)
           (sym (c .before .before .before .accepts .ensures) ∙ c .before .enum-told .given .1),
       c .if1 .taken,
       none-accepted,
@@ -56,14 +53,13 @@ loop-again c =
     let a = c .before .before .before .before .before .before .before .before .before .before .before .before .before .before .args in
     let l = c .before .before .before .before .before .before .before .before .loop in
     let q = c .before .before .before .before .before .before .before .before .before .spot in
-    let points = spotsOf (a .spots .now) in
-    let p : at points (a .i) ≡ q .result = rw (spots-at (a .spots .now) (a .i) _ (omega arith), q .ensures) in
+    let piece = pieceOf (a .sizes .now) (a .coords .now) in
+    let obstacles = rectangles (a .obstacles .now) in
     let k : suc (l .left - 1) ≡ l .left = omega arith in
     rw (
       k,
       l .inv,
-      first-refused (a .field) (pieceOf (a .sizes .now) (a .coords .now)) (rectangles (a .obstacles .now)) (a .i) points (a .honoring) (a .towards) (q .result) p (l .left)
-          (l .step)
+      first-refused (a .field) piece obstacles (a .i) (a .spots .now) (a .honoring) (a .towards) (omega arith) (q .result) (q .ensures) (l .left) (l .step)
           (sym (c .before .before .before .accepts .ensures) ∙ c .before .enum-told .given .1),
     )
 

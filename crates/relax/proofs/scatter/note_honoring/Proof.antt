@@ -1,7 +1,7 @@
 -- `note_honoring` meets its contract. The invariant: the flags of the first i marks stand in front.
 -- Rests on the law that these, all written, are those of the marks.
 use mathlib.Core.Path.{_≡_, refl, _∙_}
-use Prim.Native.Nat.{_≤_, _-_, _*_}
+use Prim.Native.Nat.{_≤_, _-_}
 use native.Mathlib.Omega.{arith}
 use lib.ListN.{length, length-set}
 use borrow.Author.Needs.{needs}

@@ -1,6 +1,6 @@
 -- `relax_scatter` meets its contract: the notes, and then the sweeps where there is something to do.
 -- Rests on the laws of what the lists hold in the end, and that flags are read back.
-use mathlib.Core.Path.{_≡_, refl, sym, _∙_}
+use mathlib.Core.Path.{_≡_, refl, _∙_}
 use mathlib.Core.Bool.{true, false}
 use native.Mathlib.Omega.{arith}
 use lib.ListN.{length}

@@ -2,7 +2,7 @@
 -- Rests on the laws of a fold over what is left of the marks' numbers.
 use mathlib.Core.Path.{_≡_, refl, sym, _∙_}
 use mathlib.Core.List.{foldl}
-use Prim.Native.Nat.{_≤_, _<_, _-_, _*_, _/_}
+use Prim.Native.Nat.{_≤_, _<_, _-_, _*_}
 use native.Mathlib.Omega.{arith}
 use lib.ListN.{length, drop}
 use borrow.Author.Needs.{needs}

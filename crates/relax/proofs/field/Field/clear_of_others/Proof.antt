@@ -1,6 +1,5 @@
 -- `clear_of_others` meets its contract: the marks before mark i, and those after it.
 -- Rests on the law that these are all others.
-use mathlib.Core.Path.{_≡_}
 use Prim.Native.Nat.{_<_}
 use native.Mathlib.Omega.{arith}
 use lib.ListN.{length}
