@@ -1,2 +1,0 @@
-// discs.rs: regions over their pieces, the radius, and all marks.
-pub mod options;

@@ -1,2 +1,0 @@
-pub mod LowDiscrepancy
-pub mod Random

@@ -1,1 +1,0 @@
-// discs.rs: the low-discrepancy and the random packer.
