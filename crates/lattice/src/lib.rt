@@ -1,2 +1,5 @@
 // discs.rs: what a packing is at, escapes from obstacles, and the lattice packer.
 pub mod context;
+pub mod count;
+pub mod rows;
+pub mod span;

@@ -1,4 +1,5 @@
 pub mod Any
+pub mod Bounded
 pub mod Casts
 pub mod Choice
 pub mod Folds
