@@ -57,7 +57,7 @@ pub fn clear_of_obstacles(px: f64, py: f64, obstacles: &[f64], clearance: f64) -
     true
 }
 
-pub fn finite(x: f64) -> bool
+pub fn is_finite(x: f64) -> bool
     ensures { λ r. ⌜ r ≡ isFinite x ⌝ }
 {
     float::abs(x) < 1.0 / 0.0
@@ -67,12 +67,12 @@ pub fn finite(x: f64) -> bool
 pub fn is_sane(rect: Rectangle) -> bool
     ensures { λ r. ⌜ r ≡ sane rect ⌝ }
 {
-    finite(rect.center.x)
-        & finite(rect.center.y)
+    is_finite(rect.center.x)
+        & is_finite(rect.center.y)
         & (rect.width > 0.0)
         & (rect.height > 0.0)
-        & finite(rect.width)
-        & finite(rect.height)
+        & is_finite(rect.width)
+        & is_finite(rect.height)
 }
 
 // Whether `obstacles_near` keeps an obstacle, for a piece within the given bounds.

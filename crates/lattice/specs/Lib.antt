@@ -1,4 +1,10 @@
 pub mod Context
 pub mod Escape
+pub mod Flat
+pub mod Keys
 pub mod Lattice
+pub mod Nearest
+pub mod Rows
+pub mod Span
+pub mod Tally
 pub mod Uniform

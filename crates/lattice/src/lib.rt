@@ -1,2 +1,6 @@
 // discs.rs: what a packing is at, escapes from obstacles, and the lattice packer.
 pub mod context;
+pub mod count;
+pub mod nearest;
+pub mod rows;
+pub mod span;

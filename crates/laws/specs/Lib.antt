@@ -1,5 +1,6 @@
 pub mod Any
 pub mod Blocks
+pub mod Bounded
 pub mod Casts
 pub mod Choice
 pub mod Every

@@ -37,7 +37,7 @@ not-below m n Ordering·gt s h = refl
 pub ifLt-none : (m n : ℕ) → n ≤ m → ifLt (compare m n) ≡ 0
 ifLt-none m n h = not-below m n (compare m n) (says m n) h
 
-abbrev NotGt : Ordering → Type 0
+abbrev pub NotGt : Ordering → Type 0
 NotGt Ordering·lt = Unit {0}
 NotGt Ordering·eq = Unit {0}
 NotGt Ordering·gt = ⊥
@@ -68,7 +68,7 @@ module _ {A : Type 0} (cmp : A → A → Ordering) where
   levels x xs = weigh (λ (y : A). ifEq (cmp y x)) xs
 
   -- ---- in order
-  abbrev None-below : A → List A → Type 0
+  abbrev pub None-below : A → List A → Type 0
   None-below x [] = Unit {0}
   None-below x (y ∷ ys) = NotGt (cmp x y) × None-below x ys
 
@@ -84,7 +84,7 @@ module _ {A : Type 0} (cmp : A → A → Ordering) where
     through a b c Ordering·eq u e f h k = rw (l .level a b c e, f) k
     through a b c Ordering·gt u e f h k = absurd h
 
-    none-below : (x y : A) (ys : List A) → NotGt (cmp x y) → None-below y ys → None-below x ys
+    pub none-below : (x y : A) (ys : List A) → NotGt (cmp x y) → None-below y ys → None-below x ys
     none-below x y [] h k = tt
     none-below x y (z ∷ zs) h k = (through x y z (cmp x y) (cmp y z) refl refl h (k .0), none-below x y zs h (k .1))
 

@@ -12,7 +12,7 @@ use crate::field::Acceptance;
 use crate::field::Field;
 use crate::push::Force;
 use glyphs::rect::Point;
-use glyphs::rect::finite;
+use glyphs::rect::is_finite;
 use glyphs::spots::put_spot;
 use glyphs::spots::spot;
 
@@ -75,7 +75,7 @@ fn pushed_to(
     ensures { λ r. ⌜ r ≡ pushedTo field (pieceOf (now (sizes .entry)) (now (coords .entry))) (rectangles (now (obstacles .entry))) i (spotsOf (now (spots .entry))) honoring f (suc backtracks) «max_step» ⌝ }
 {
     let magnitude = float::hypot(f.x, f.y);
-    if !finite(magnitude) | (magnitude <= 0.0) {
+    if !is_finite(magnitude) | (magnitude <= 0.0) {
         return Move::Stay;
     }
     let towards = Force {

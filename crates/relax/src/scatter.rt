@@ -12,7 +12,7 @@ use crate::Spreading;
 use crate::field::Field;
 use crate::moves::relax_point;
 use glyphs::rect::clear_of_obstacles;
-use glyphs::rect::finite;
+use glyphs::rect::is_finite;
 use glyphs::spots::spot;
 use regions::clearance::signed_clearance;
 
@@ -126,7 +126,7 @@ fn idle(count: usize, spacing: f64) -> bool
     if count == 0 {
         return true;
     }
-    !finite(spacing) | (spacing <= 0.0)
+    !is_finite(spacing) | (spacing <= 0.0)
 }
 
 // Evens the marks out. At exit `clearances` has the clearance of each, and `honoring` is 1 for those that were

@@ -1,5 +1,5 @@
 -- `is_sane` meets its contract: the rule of `sanitize_obstacles` for one obstacle.
--- Rests on the contract of `finite`.
+-- Rests on the contract of `is_finite`.
 use borrow.Author.Needs.{needs}
 use Rattle.glyphs.specs.Rect.{sane}
 use Rattle.glyphs.proofs.rect.is_sane.Statement.{statement}

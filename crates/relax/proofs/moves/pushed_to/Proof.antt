@@ -7,12 +7,12 @@ use Rattle.relax.proofs.moves.pushed_to.Tie as tie
 
 returns : tie.Need-returns
 unfolding pushedTo
-returns c = rw (← c .before .before .hypot .ensures, ← c .before .finite .ensures, c .if1 .taken)
+returns c = rw (← c .before .before .hypot .ensures, ← c .before .is-finite .ensures, c .if1 .taken)
 
 returns-2 : tie.Need-returns-2
 unfolding pushedTo
 returns-2 c =
-    rw (← c .before .before .before .before .before .before .hypot .ensures, ← c .before .before .before .before .before .finite .ensures, c .before .before .before .before .if1 .left, ← c .before .min .ensures) (c .first-accepted .ensures)
+    rw (← c .before .before .before .before .before .before .hypot .ensures, ← c .before .before .before .before .before .is-finite .ensures, c .before .before .before .before .if1 .left, ← c .before .min .ensures) (c .first-accepted .ensures)
 
 pub pushed-to-spec : {M : Type 1} → statement M
 pushed-to-spec =
