@@ -50,6 +50,10 @@ uint64_t probe_obstacles_near(PIECE, OBSTACLES, double clearance,
 uint8_t probe_deepest_point(PIECE, double precision, WORK, double found[3],
                             uint32_t *waiting);
 
+/* The clearance of the same search with the cells lent, for bench/: 0 where
+ * there is no deepest point, -1 where too many wait. */
+double probe_depth(PIECE, double precision, double *cells, size_t cell_floats);
+
 /* discs.rs, each packer on one piece with its quota (at least 1). settings are
  * radius, gap, boundary gap, precision. `state` is the stream's, before and
  * after; only Random changes it. The answer is the number of spots; `spots`

@@ -1,4 +1,4 @@
-//! Clearances on rings of several sizes, beside the Rust original.
+//! Clearances and deepest points on rings of several sizes, beside the Rust original.
 use bench::{Bits, line, time};
 use oracle::judge;
 use oracle::plotting::glyphs::discs::layers;
@@ -22,6 +22,15 @@ unsafe extern "C" {
         y: f64,
         c: f64,
     ) -> bool;
+    fn probe_depth(
+        sizes: *const u64,
+        rings: usize,
+        coords: *const f64,
+        floats: usize,
+        precision: f64,
+        cells: *mut f64,
+        cell_floats: usize,
+    ) -> f64;
 }
 
 /// A star of n vertices, in 1/1024, of radius up to 10.
@@ -55,5 +64,15 @@ fn main() {
         };
         assert!(places.iter().all(|&p| at_least(p) == (rust(p) >= c) && ours(p).to_bits() == rust(p).to_bits()));
         line(&format!("at least {c}, {n} edges"), time(&places, |p| rust(p) >= c), time(&places, at_least));
+        let mut cells = vec![0.0; 8_000];
+        let lent = cells.as_mut_ptr();
+        let rust = |p: f64| layers::deepest_point(&piece, p).0.map_or(0.0, |(_, d)| d);
+        let ours = |p: f64| unsafe {
+            probe_depth(sizes.as_ptr(), 1, coords.as_ptr(), coords.len(), p, lent, 8_000)
+        };
+        let precisions: Vec<f64> =
+            (0..1_000).map(|_| 0.05 + 0.45 * bits.unit().abs()).filter(|&p| ours(p) >= 0.0).collect();
+        assert!(precisions.iter().all(|&p| ours(p).to_bits() == rust(p).to_bits()));
+        line(&format!("deepest point, {n} edges"), time(&precisions, rust), time(&precisions, ours));
     }
 }

@@ -190,3 +190,20 @@ pub extern "C" fn probe_deepest_point(
         }
     }
 }
+
+// The clearance of the deepest point, for the measurements: 0 where there is none, -1 without room.
+#[no_mangle]
+pub extern "C" fn probe_depth(
+    sizes: &[usize],
+    coords: &[f64],
+    precision: f64,
+    cells: &mut [f64],
+) -> f64
+    requires { ⌜ (0 < length (now sizes)) × (sum (now sizes) * 2 ≤ length (now coords)) × (length (now cells) ≤ 500000) ⌝ }
+{
+    match deepest::search::deepest_point(sizes, coords, precision, cells) {
+        Deepest::Full => -1.0,
+        Deepest::Nothing => 0.0,
+        Deepest::Found(_, _, d) => d,
+    }
+}
