@@ -5,3 +5,4 @@ pub mod Steps
 pub mod RowLaws
 pub mod NumberLaws
 pub mod PieceLaws
+pub mod Back
