@@ -1,21 +1,18 @@
 -- What was written is read back: numbers and floats that stand at a place of some bytes.
 -- Rests on the kit's laws of lists and of a float's bits.
 use Prim.Native.Nat.{ℕ, zero, suc, _+_, _*_, _/_, _%_, _^_, _<_}
-use mathlib.Core.Path.{_≡_, refl, sym, ap, _∙_}
+use mathlib.Core.Path.{_≡_, sym, ap, _∙_}
 use mathlib.Core.List.{List, [], _∷_, _++_, append-assoc}
 use native.Mathlib.Omega.{arith}
 use native.Mathlib.Nat.{pow-suc}
 use lib.ListN.{length, getD, drop}
-use lib.Seq.{drop-drop, drop-append-seam, getD-drop}
+use lib.Seq.{getD-drop}
 use lib.Dec.{T}
-use lib.Ieee.{Float, binary64, fits, toBits, ofBits}
+use lib.Ieee.{Float, binary64, fits, toBits}
 use lib.Ieee.Bits.{ofBits-toBits, toBits-lt}
 use Rattle.format.specs.Numbers.{uint, bytes, floatAt, floatBytes}
 use Rattle.format.specs.NumberLaws.{length-bytes}
-
--- what stands behind the first of two
-pub behind : (s : List ℕ) (at : ℕ) (xs ys : List ℕ) → drop at s ≡ xs ++ ys → drop (at + length xs) s ≡ ys
-behind s at xs ys e = sym (drop-drop (length xs) at s) ∙ rw e (drop-append-seam xs ys)
+use Rattle.format.specs.RowLaws.{behind}
 
 first : (s : List ℕ) (at x : ℕ) (ys : List ℕ) → drop at s ≡ x ∷ ys → getD s at 0 ≡ x
 first s at x ys e =

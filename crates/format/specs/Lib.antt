@@ -6,3 +6,6 @@ pub mod RowLaws
 pub mod NumberLaws
 pub mod PieceLaws
 pub mod Back
+pub mod Exact
+pub mod Known
+pub mod Flat

@@ -3,7 +3,7 @@
 use Prim.Native.Nat.{ℕ, zero, suc, _+_, _-_, _*_, _/_, _%_, _^_, _<_, _≤_, min}
 use mathlib.Core.Path.{_≡_, refl, _∙_}
 use mathlib.Core.Bool.{Bool, true, false, _&&_}
-use mathlib.Core.List.{List, [], _∷_, _++_}
+use mathlib.Core.List.{List, [], _∷_}
 use native.Mathlib.Omega.{arith}
 use native.Mathlib.Numerals.{add-one}
 use lib.ListN.{length, getD, take, drop, set, length-append, length-take, length-drop}
@@ -12,7 +12,7 @@ use lib.Dec.{leb}
 use lib.Ieee.{Float, nan, inf, fin, binary64, isNan, toBits}
 use native.Mathlib.Nat.{pow-suc, pow-le-pow-right}
 use borrow.Author.Tests.{leb-true, le-leb, lt-leb}
-use Rattle.format.specs.Numbers.{uint, bytes, item, coordIn, inRange}
+use Rattle.format.specs.Numbers.{uint, bytes, item, coordIn}
 use Rattle.format.specs.RowLaws.{passed, both, row-has, row-lacks, last-true, last-false, sets-append}
 
 pub uint-next : (n : ℕ) (s : List ℕ) (at : ℕ) → uint (n + 1) s at ≡ uint n s at * 256 + getD s (at + n) 0

@@ -6,3 +6,4 @@ pub mod HeadLaws
 pub mod ZoneLaws
 pub mod JobLaws
 pub mod Rows
+pub mod Known

@@ -14,7 +14,7 @@ use Rattle.format.specs.Pieces.{piece, pieceEnd}
 use Rattle.format.specs.RowLaws.{both, faults-at, each-at, length-each}
 use Rattle.format.specs.NumberLaws.{item-passed, length-part}
 use Rattle.job.specs.declared.zones.Row.{Row}
-use Rattle.job.specs.Zones.{Place, Zone, zone, zoneEnd, zoneNext, zoneFault, openingFault, keyFault, keyAt, countAt, marksAt, piecesAt, rowAt, rowOf, zoneRow}
+use Rattle.job.specs.Zones.{Place, Zone, zone, zoneEnd, zoneNext, zoneFault, openingFault, keyFault, keyAt, countAt, piecesAt, rowAt, rowOf, zoneRow}
 use Rattle.job.specs.ZoneLaws.{key-inside, opening-passed}
 use Rattle.job.specs.Job.{zonesAt, firstZone, zones, zonesFault, itemsFault, jobOf, isLeftIn, leftIn, zonesRoom, sheetRoom, rowIsLeftIn, rowRoom, rowsRoom, rowsOf}
 

@@ -1,17 +1,18 @@
 -- Reading inverts writing: the bytes of a sheet say its radius, and the key, unplaced number and spots of each zone.
 -- Rests on numbers and floats being read back.
-use Prim.Native.Nat.{ℕ, zero, suc, _+_, _*_, _/_, _≤_, _<_}
-use mathlib.Core.Path.{_≡_, refl, sym, ap, _∙_}
+use Prim.Native.Nat.{ℕ, _+_, _*_, _/_, _<_}
+use mathlib.Core.Path.{_≡_, refl, _∙_}
 use mathlib.Core.List.{List, [], _∷_, _++_, append-assoc, flatMap}
 use native.Mathlib.Omega.{arith}
-use lib.ListN.{length, take, drop, length-append}
+use lib.ListN.{length, drop, length-append}
 use lib.Seq.{take-append-seam}
 use lib.Dec.{T}
 use lib.Ieee.{Float, binary64, fits}
 use Rattle.format.specs.Rows.{each}
 use Rattle.format.specs.Numbers.{u8, u16, bytes, floatAt, floatBytes}
 use Rattle.format.specs.NumberLaws.{length-bytes}
-use Rattle.format.specs.Back.{behind, uint-back, float-back, length-float}
+use Rattle.format.specs.RowLaws.{behind}
+use Rattle.format.specs.Back.{uint-back, float-back, length-float}
 use Rattle.sheet.specs.Sheet.{Placement, Sheet, zoneHead, placementBytes, sheetHead, sheetOf, nextFloat, placedAt, placementEnd, placement, readSheet}
 
 -- ---- what a sheet can hold
