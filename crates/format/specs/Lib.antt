@@ -5,3 +5,7 @@ pub mod Steps
 pub mod RowLaws
 pub mod NumberLaws
 pub mod PieceLaws
+pub mod Back
+pub mod Exact
+pub mod Known
+pub mod Flat

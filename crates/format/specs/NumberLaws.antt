@@ -1,18 +1,18 @@
 -- Laws of numbers and items.
 -- Rests on the laws of rows.
 use Prim.Native.Nat.{ℕ, zero, suc, _+_, _-_, _*_, _/_, _%_, _^_, _<_, _≤_, min}
-use mathlib.Core.Path.{_≡_, refl}
+use mathlib.Core.Path.{_≡_, refl, _∙_}
 use mathlib.Core.Bool.{Bool, true, false, _&&_}
-use mathlib.Core.List.{List, [], _∷_, _++_}
+use mathlib.Core.List.{List, [], _∷_}
 use native.Mathlib.Omega.{arith}
 use native.Mathlib.Numerals.{add-one}
-use lib.ListN.{length, getD, set, length-append}
-use lib.Seq.{sets, set-comm}
+use lib.ListN.{length, getD, take, drop, set, length-append, length-take, length-drop}
+use lib.Seq.{sets, set-comm, drop-cons}
 use lib.Dec.{leb}
 use lib.Ieee.{Float, nan, inf, fin, binary64, isNan, toBits}
 use native.Mathlib.Nat.{pow-suc, pow-le-pow-right}
 use borrow.Author.Tests.{leb-true, le-leb, lt-leb}
-use Rattle.format.specs.Numbers.{uint, bytes, item, coordIn, inRange}
+use Rattle.format.specs.Numbers.{uint, bytes, item, coordIn}
 use Rattle.format.specs.RowLaws.{passed, both, row-has, row-lacks, last-true, last-false, sets-append}
 
 pub uint-next : (n : ℕ) (s : List ℕ) (at : ℕ) → uint (n + 1) s at ≡ uint n s at * 256 + getD s (at + n) 0
@@ -76,9 +76,14 @@ coord-inside s number at e = leb-true (at + 4) (length s) (passed 6 _ (omega ari
 
 -- ---- bytes written, the last first
 
-set-behind : (l : List ℕ) (k : ℕ) (xs : List ℕ) (j b : ℕ) → k + length xs ≤ j → set (sets l k xs) j b ≡ sets (set l j b) k xs
+set-behind : {A : Type 0} (l : List A) (k : ℕ) (xs : List A) (j : ℕ) (b : A) → k + length xs ≤ j → set (sets l k xs) j b ≡ sets (set l j b) k xs
 set-behind l k [] j b h = refl
 set-behind l k (x ∷ xs) j b h = rw (set-behind (set l k x) (suc k) xs j b (omega arith), set-comm l k j x b (λ e. omega arith))
+
+-- two runs of stores, one behind the other, in either order
+pub sets-behind : {A : Type 0} (l : List A) (k : ℕ) (xs : List A) (j : ℕ) (ys : List A) → k + length xs ≤ j → sets (sets l j ys) k xs ≡ sets (sets l k xs) j ys
+sets-behind l k xs j [] h = refl
+sets-behind l k xs j (y ∷ ys) h = sets-behind (set l j y) k xs (suc j) ys (omega arith) ∙ rw (set-behind l k xs j y h)
 
 pub length-bytes : (n v : ℕ) → length (bytes n v) ≡ n
 unfolding bytes
@@ -120,3 +125,15 @@ room-turn k left at len room m h r =
     let e : (len - at) / 4 ≡ suc ((len - (at + 4)) / 4) = omega arith in
     let q : k + min left (suc ((len - (at + 4)) / 4)) ≤ room = rw e at r in
     (omega arith, omega arith)
+
+-- ---- some bytes: how many, and the first and those after it
+
+pub length-part : (s : List ℕ) (at n : ℕ) → at + n ≤ length s → length (take n (drop at s)) ≡ n
+length-part s at n h = simp (length-take, length-drop) (omega arith)
+
+pub next-byte : (s : List ℕ) (at n : ℕ) → 0 < n → at + n ≤ length s → take n (drop at s) ≡ getD s at 0 ∷ take (n - 1) (drop (at + 1) s)
+next-byte s at zero m h = absurd (omega arith)
+next-byte s at (suc n) m h =
+    let e : suc n - 1 ≡ n = omega arith in
+    let l : at < length s = omega arith in
+    rw (e, add-one, drop-cons s at 0 l)

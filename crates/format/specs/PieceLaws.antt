@@ -1,7 +1,7 @@
 -- Laws of rings and pieces.
 -- Rests on the laws of rows and items.
 use Prim.Native.Nat.{ℕ, zero, suc, _+_, _*_, _≤_}
-use mathlib.Core.Path.{_≡_, refl, sym}
+use mathlib.Core.Path.{_≡_, sym}
 use mathlib.Core.List.{List, map, flatten}
 use native.Mathlib.Omega.{arith}
 use lib.ListN.{length, length-append}

@@ -1,7 +1,7 @@
 -- The job's rings and pieces: what is refused, what stands there, and where it ends. Definitions only.
 -- What stands at a place is defined on any bytes; it is the job's where no fault is found.
 use Prim.Native.Nat.{ℕ, _+_, _*_}
-use mathlib.Core.List.{List, [], _∷_}
+use mathlib.Core.List.{List}
 use lib.Ieee.{Float}
 use Rattle.glyphs.specs.Points.{Ring}
 use Rattle.regions.specs.Ring.{Piece}

@@ -1,14 +1,14 @@
 -- Laws of faults and of runs, for every level: one turn of a loop that counts down, what passes, and which row answers (`search rows`).
 -- Rests on the kit's laws of lists and tests.
 use Prim.Native.Nat.{ℕ, zero, suc, _+_, _-_, _<_, _≤_}
-use mathlib.Core.Path.{_≡_, refl, _∙_, sym, ap}
-use mathlib.Core.Bool.{Bool, true, false, not}
+use mathlib.Core.Path.{_≡_, refl, _∙_, sym}
+use mathlib.Core.Bool.{Bool, true, false}
 use mathlib.Core.List.{List, [], _∷_, _++_, map, flatten, flatMap}
 use native.Mathlib.Omega.{arith}
 use native.Mathlib.Nat.{zero-add}
 use native.Mathlib.Numerals.{add-one}
-use lib.ListN.{length, getD, set, length-append}
-use lib.Seq.{sets, sets-eq}
+use lib.ListN.{length, getD, drop, set, length-append}
+use lib.Seq.{sets, sets-eq, drop-drop, drop-append-seam}
 use lib.Dec.{leb, eqb}
 use borrow.Author.Needs.{needs}
 use borrow.Author.Tests.{le-leb, lt-leb, eq-eqb, ne-eqb}
@@ -41,6 +41,12 @@ sets-append l k (x ∷ xs) ys =
 pub sets-written : {A : Type 0} (xs l : List A) → length xs ≤ length l → sets l 0 xs ≡ written xs l
 unfolding written
 sets-written xs l h = sets-eq xs l 0 (omega arith) ∙ rw zero-add
+
+-- ---- runs that stand in some bytes
+
+-- what stands behind the first of two
+pub behind : {A : Type 0} (s : List A) (at : ℕ) (xs ys : List A) → drop at s ≡ xs ++ ys → drop (at + length xs) s ≡ ys
+behind s at xs ys e = sym (drop-drop (length xs) at s) ∙ rw e (drop-append-seam xs ys)
 
 -- ---- which row answers
 

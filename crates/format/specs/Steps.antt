@@ -1,5 +1,5 @@
 -- What the functions that read leave behind: the fault, and where there is none, the place that they came to and what they put into lent slices. Definitions only.
-use Prim.Native.Nat.{ℕ, _+_, _-_, _*_, _/_, _≤_, _<_}
+use Prim.Native.Nat.{ℕ, _+_, _*_, _≤_}
 use mathlib.Core.Path.{_≡_}
 use mathlib.Core.List.{List, [], _∷_}
 use lib.ListN.{length}

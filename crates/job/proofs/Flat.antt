@@ -1,7 +1,7 @@
 -- What the zones' reading put into the slices is the job's, and what the reader answers.
 -- Rests on the laws of the job's flat lists.
 use Prim.Native.Nat.{ℕ, zero, suc, _+_, _*_, _≤_}
-use mathlib.Core.Path.{_≡_, refl, sym, _∙_}
+use mathlib.Core.Path.{_≡_, refl, _∙_}
 use mathlib.Core.List.{List}
 use native.Mathlib.Omega.{arith}
 use lib.ListN.{length, length-append}
@@ -14,10 +14,9 @@ use Rattle.format.specs.Rows.{flat}
 use Rattle.format.specs.Numbers.{u16}
 use Rattle.format.specs.RowLaws.{sets-written}
 use Rattle.format.specs.declared.pieces.Cursor.{Cursor}
-use Rattle.job.specs.declared.read.Reading.{Reading}
 use Rattle.job.specs.declared.read.Reading.the-variants.{Refused, Read}
 use Rattle.job.specs.Head.{obstaclesAt, optionsOf}
-use Rattle.job.specs.Zones.{zoneEnd, zoneRow, zoneCoords, zoneSizes, zoneRings}
+use Rattle.job.specs.Zones.{zoneEnd, zoneRow}
 use Rattle.job.specs.ZoneLaws.{length-row}
 use Rattle.job.specs.Job.{zonesAt, zones, itemsFault, readingOf, coordsOf, sizesOf, ringsOf, rowsOf}
 use Rattle.job.specs.JobLaws.{all-coords, all-sizes, all-rings}

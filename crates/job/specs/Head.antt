@@ -15,7 +15,7 @@ use Rattle.discs.specs.declared.options.BoundaryGap.{BoundaryGap}
 use Rattle.discs.specs.declared.options.BoundaryGap.the-variants.{Follows, Own}
 use Rattle.discs.specs.declared.options.GlyphOptions.{GlyphOptions}
 use Rattle.format.specs.Rows.{_unless_, _orElse_, faults, each}
-use Rattle.format.specs.Numbers.{u8, u16, u32, u64, u8In, u16In, u32In, whole, item, share, coordIn, coordAt, nextCoord}
+use Rattle.format.specs.Numbers.{u8, u16, u32, u64, u8In, u16In, u32In, whole, share, coordIn, coordAt, nextCoord}
 
 -- ---- where each stands
 

@@ -1,7 +1,7 @@
 -- Laws of the job: what the flat slices hold is the zones'.
 -- Rests on the laws of runs and pieces.
 use Prim.Native.Nat.{ℕ, _+_}
-use mathlib.Core.Path.{_≡_, sym}
+use mathlib.Core.Path.{_≡_}
 use mathlib.Core.List.{List, map, flatten, flatMap}
 use native.Mathlib.Omega.{arith}
 use lib.ListN.{length}

@@ -2,8 +2,8 @@ pub mod Head
 pub mod Zones
 pub mod Job
 pub mod Steps
-pub mod Sheet
 pub mod HeadLaws
 pub mod ZoneLaws
 pub mod JobLaws
 pub mod Rows
+pub mod Known

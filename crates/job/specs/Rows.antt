@@ -1,20 +1,20 @@
 -- Laws of rows: what the rows of a job without fault say of its zones, and the room that its sheet may want.
 -- Rests on the laws of runs and zones.
-use Prim.Native.Nat.{ℕ, zero, suc, _+_, _-_, _*_, _≤_, _<_, min}
+use Prim.Native.Nat.{ℕ, zero, suc, _+_, _-_, _*_, _≤_, _<_}
 use mathlib.Core.Path.{_≡_, refl, sym, ap, _∙_}
 use mathlib.Core.Bool.{Bool, true, false, cond}
 use mathlib.Core.List.{List, _∷_, _++_}
 use native.Mathlib.Omega.{arith}
 use lib.Seq.{getD-drop, drop-drop}
-use lib.ListN.{length, getD, take, drop, length-take, length-drop}
+use lib.ListN.{length, getD, take, drop}
 use Rattle.laws.specs.Lists.{written}
 use Rattle.format.specs.Rows.{faults, past, each, flat}
 use Rattle.format.specs.Numbers.{u8, u16}
 use Rattle.format.specs.Pieces.{piece, pieceEnd}
 use Rattle.format.specs.RowLaws.{both, faults-at, each-at, length-each}
-use Rattle.format.specs.NumberLaws.{item-passed}
+use Rattle.format.specs.NumberLaws.{item-passed, length-part}
 use Rattle.job.specs.declared.zones.Row.{Row}
-use Rattle.job.specs.Zones.{Place, Zone, zone, zoneEnd, zoneNext, zoneFault, openingFault, keyFault, keyAt, countAt, marksAt, piecesAt, rowAt, rowOf, zoneRow}
+use Rattle.job.specs.Zones.{Place, Zone, zone, zoneEnd, zoneNext, zoneFault, openingFault, keyFault, keyAt, countAt, piecesAt, rowAt, rowOf, zoneRow}
 use Rattle.job.specs.ZoneLaws.{key-inside, opening-passed}
 use Rattle.job.specs.Job.{zonesAt, firstZone, zones, zonesFault, itemsFault, jobOf, isLeftIn, leftIn, zonesRoom, sheetRoom, rowIsLeftIn, rowRoom, rowsRoom, rowsOf}
 
@@ -33,9 +33,6 @@ pub record IsRow (s : List ℕ) (z : Zone) (row : Row) : Type 0 where
   pub fits : Fits row
   pub some : row .pieces ≤ 16
 
-key-length : (s : List ℕ) (at n : ℕ) → at + n ≤ length s → n ≡ length (take n (drop at s))
-key-length s at n h = simp (length-take, length-drop) (omega arith)
-
 is-row : (s : List ℕ) (z : Place) → zoneFault s z ≡ 0 → IsRow s (zone s (z .at)) (rowAt s (z .at))
 unfolding zoneFault openingFault keyFault rowAt zone keyAt
 is-row s z e =
@@ -46,7 +43,7 @@ is-row s z e =
     let l : at + 1 + u8 s at ≤ length s = key-inside s at (z .last) k in
     record {
       key = refl;
-      len = key-length s (at + 1) (u8 s at) l;
+      len = sym (length-part s (at + 1) (u8 s at) l);
       count = refl;
       pieces = sym (length-each (pieceEnd s) (piece s) (piecesAt s at) (countAt s at + 3));
       inside = l;

@@ -14,7 +14,7 @@ use Rattle.job.specs.declared.zones.ZoneStep.{ZoneStep}
 use Rattle.job.specs.Zones.{Place, zoneFault, zoneNext, zoneEnd, zoneCoords, zoneSizes, zoneRings, zoneRow}
 use Rattle.laws.specs.Lists.{written}
 use Rattle.job.specs.declared.read.Reading.{Reading}
-use Rattle.job.specs.Job.{zonesFault, zones, zonesAt, itemsFault, readingOf, coordsOf, sizesOf, ringsOf, rowsOf}
+use Rattle.job.specs.Job.{zonesFault, zones, itemsFault, readingOf, coordsOf, sizesOf, ringsOf, rowsOf}
 use Rattle.job.specs.Head.{obstaclesFault, obstaclesEnd, obstacles}
 
 -- ---- obstacles

@@ -1,18 +1,16 @@
 -- Laws of keys and zones.
 -- Rests on the laws of rows and items, and the kit's laws of lists.
-use Prim.Native.Nat.{ℕ, zero, suc, _+_, _-_, _*_, _<_, _≤_}
+use Prim.Native.Nat.{ℕ, zero, suc, _+_, _-_, _<_, _≤_}
 use mathlib.Core.Path.{_≡_, refl}
 use mathlib.Core.Bool.{true, false}
-use mathlib.Core.List.{List, _∷_}
+use mathlib.Core.List.{List}
 use native.Mathlib.Omega.{arith}
-use native.Mathlib.Numerals.{add-one}
 use lib.ListN.{length, getD, take, drop}
-use lib.Seq.{drop-cons}
 use borrow.Author.Tests.{lt-ltb, le-ltb, leb-true}
 use Rattle.format.specs.Rows.{faults}
 use Rattle.format.specs.Numbers.{u8, u16}
 use Rattle.format.specs.RowLaws.{both, passed, length-each}
-use Rattle.format.specs.NumberLaws.{item-passed}
+use Rattle.format.specs.NumberLaws.{item-passed, next-byte}
 use Rattle.format.specs.Pieces.{pieceEnd}
 use Rattle.format.specs.PieceLaws.{few-rings-each}
 use Rattle.job.specs.Zones.{Place, letterFault, nextByte, above, keyFault, countsFault, countAt, marksAt, piecesAt, keyAt, zoneEnd, zoneNext, openingFault, zoneFault, zoneSizes, zoneRings, zoneRow}
@@ -90,13 +88,6 @@ unfolding zoneNext keyAt
 next-place s z at key len marks a k l m = rw (a, k, l, m)
 
 -- ---- one turn of a comparison of keys
-
-next-byte : (s : List ℕ) (at n : ℕ) → 0 < n → at + n ≤ length s → take n (drop at s) ≡ getD s at 0 ∷ take (n - 1) (drop (at + 1) s)
-next-byte s at zero m h = absurd (omega arith)
-next-byte s at (suc n) m h =
-    let e : suc n - 1 ≡ n = omega arith in
-    let l : at < length s = omega arith in
-    rw (e, add-one, drop-cons s at 0 l)
 
 pub above-none : (s : List ℕ) (p x : ℕ) (y : List ℕ) → x ≤ 0 → above (take x (drop p s)) y ≡ false
 unfolding above

@@ -1,9 +1,9 @@
--- The sheet's bytes, from the radius and each zone's spots; and what a sheet's bytes say. Definitions only.
+-- The sheet: its bytes, from the radius and each zone's spots, and what a sheet's bytes say. Definitions only.
 use Prim.Native.Nat.{ℕ, _+_, _*_, _/_}
-use mathlib.Core.List.{List, [], _∷_, _++_, map}
+use mathlib.Core.List.{List, _++_, flatMap}
 use lib.ListN.{length, take, drop}
 use lib.Ieee.{Float}
-use Rattle.format.specs.Rows.{past, each}
+use Rattle.format.specs.Rows.{each}
 use Rattle.format.specs.Numbers.{u8, u16, bytes, floatAt, floatBytes}
 
 -- a zone left in: its key, its marks that are unplaced, and x and y of each spot in turn
@@ -18,30 +18,23 @@ pub record Sheet : Type 0 where
 
 -- ---- written
 
-unfoldable pub joined : {A B : Type 0} → (A → List B) → List A → List B
-joined f [] = []
-joined f (x ∷ xs) = f x ++ joined f xs
+-- key length u8, key, placed u16, unplaced u16
+unfoldable pub zoneHead : List ℕ → ℕ → ℕ → List ℕ
+zoneHead key placed unplaced = bytes 1 (length key) ++ key ++ bytes 2 placed ++ bytes 2 unplaced
 
--- key length u8, key, placed u16, unplaced u16, spots
+-- then x and y of each spot as 64 bits
 unfoldable pub placementBytes : Placement → List ℕ
-placementBytes z =
-    bytes 1 (length (z .key))
-    ++ z .key
-    ++ bytes 2 (length (z .spots) / 2)
-    ++ bytes 2 (z .unplaced)
-    ++ joined floatBytes (z .spots)
+placementBytes z = zoneHead (z .key) (length (z .spots) / 2) (z .unplaced) ++ flatMap floatBytes (z .spots)
 
--- version 1, radius, zone count u16, zones
-unfoldable pub bodyBytes : Sheet → List ℕ
-bodyBytes sheet =
-    bytes 1 1
-    ++ floatBytes (sheet .radius)
-    ++ bytes 2 (length (sheet .zones))
-    ++ joined placementBytes (sheet .zones)
+-- length u32 of what follows, version 1, radius as its 64 bits, zone count u16
+unfoldable pub sheetHead : ℕ → Float → ℕ → List ℕ
+sheetHead rest radius zones = bytes 4 rest ++ bytes 1 1 ++ floatBytes radius ++ bytes 2 zones
 
--- length u32 of what follows
+-- then the zones; what follows the length is 11 bytes and these
 unfoldable pub sheetOf : Sheet → List ℕ
-sheetOf sheet = bytes 4 (length (bodyBytes sheet)) ++ bodyBytes sheet
+sheetOf sheet =
+    let zones = flatMap placementBytes (sheet .zones) in
+    sheetHead (11 + length zones) (sheet .radius) (length (sheet .zones)) ++ zones
 
 -- ---- read
 
