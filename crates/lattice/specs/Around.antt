@@ -3,7 +3,7 @@
 use mathlib.Core.Path.{_≡_, refl, sym, ap, _∙_}
 use mathlib.Core.Bool.{Bool, true, false, not, cond, _&&_, _||_}
 use mathlib.Core.List.{List, [], _∷_, _++_}
-use Prim.Native.Nat.{ℕ, zero, suc, _+_, _/_, _≤_, _<_, min}
+use Prim.Native.Nat.{ℕ, zero, suc, _+_, _-_, _/_, _≤_, _<_, min}
 use native.Mathlib.Omega.{arith}
 use borrow.Author.Tests.{lt-ltb, le-ltb, lt-leb, leb-true, leb-false}
 use lib.Dec.{leb, ltb, eqb}
@@ -68,34 +68,39 @@ pub outer-is : (sizes : List ℕ) (coords : List Float) (ring : List Float) → 
 unfolding outer
 outer-is sizes coords ring h e = rw (first-ring sizes coords h, e)
 
+-- the lattice about a deepest point, given the obstacles near its piece
+abbrev pub fieldAt : Point → Piece → PackCtx → List Rectangle → Bool → Float → Float → Float → Float → Field
+fieldAt poi piece ctx near rectangular min-x max-x min-y max-y =
+    record {
+      anchor = anchorOf poi piece near (inset ctx);
+      lattice = record { spacing = spacing ctx; rectangular = rectangular };
+      «min_x» = min-x;
+      «max_x» = max-x;
+      «min_y» = min-y;
+      «max_y» = max-y;
+    }
+
 module _ (poi : Point) (piece : Piece) (n : ℕ) (ctx : PackCtx) (obstacles : List Rectangle) (rectangular : Bool) where
   -- ---- with bounds
   module _ (min-x max-x min-y max-y : Float) (box : ringBounds (outer piece) ≡ Box min-x max-x min-y max-y) where
     abbrev pub nearOf : List Rectangle
     nearOf = obstaclesNear (Box min-x max-x min-y max-y) obstacles (inset ctx)
 
-    abbrev pub fieldOf : Field
-    fieldOf =
-        record {
-          anchor = anchorOf poi piece nearOf (inset ctx);
-          lattice = record { spacing = spacing ctx; rectangular = rectangular };
-          «min_x» = min-x;
-          «max_x» = max-x;
-          «min_y» = min-y;
-          «max_y» = max-y;
-        }
+    abbrev fieldOf : Field
+    fieldOf = fieldAt poi piece ctx nearOf rectangular min-x max-x min-y max-y
 
     around : packAround poi piece n ctx obstacles rectangular ≡ packLattice piece n ctx rectangular nearOf (anchorOf poi piece nearOf (inset ctx))
     unfolding packAround
     around = rw box
 
-    pub around-is : ctx .mode .spread ≡ true → packAround poi piece n ctx obstacles rectangular ≡ fieldPack piece (inset ctx) nearOf n fieldOf (ctx .mode .«strict_obstacles»)
-    around-is e = around ∙ pack-is piece n ctx nearOf fieldOf box refl e
+    module _ (least : Float) (near : List Rectangle) (field : Field) (el : least ≡ inset ctx) (en : near ≡ nearOf) (ef : field ≡ fieldAt poi piece ctx near rectangular min-x max-x min-y max-y) where
+      pub around-is : ctx .mode .spread ≡ true → fieldPack piece least near n field (ctx .mode .«strict_obstacles») ≡ packAround poi piece n ctx obstacles rectangular
+      around-is e = rw (ef, el, en) (sym (around ∙ pack-is piece n ctx nearOf fieldOf box refl e))
 
-    pub probe-is :
-        ctx .mode .spread ≡ false → ctx .mode .«strict_obstacles» ≡ true
-        → length (packAround poi piece n ctx obstacles rectangular) ≡ min n (length (cellsOf fieldOf piece (inset ctx) nearOf (at n) .free))
-    probe-is e f = ap length around ∙ trial-is piece n ctx nearOf fieldOf box refl e f
+      pub probe-is :
+          ctx .mode .spread ≡ false → ctx .mode .«strict_obstacles» ≡ true
+          → min n (length (cellsOf field piece least near (at n) .free)) ≡ length (packAround poi piece n ctx obstacles rectangular)
+      probe-is e f = rw (ef, el, en) (sym (ap length around ∙ trial-is piece n ctx nearOf fieldOf box refl e f))
 
   -- ---- without bounds no spots
   take-none : (k : ℕ) (anchor : Point) (honoring b : Bool) → cond (honoring || b) (take n (sortByAnchor anchor [])) (sortByAnchor anchor [] ++ take k (sortByAnchor anchor [])) ≡ []
@@ -106,4 +111,15 @@ module _ (poi : Point) (piece : Piece) (n : ℕ) (ctx : PackCtx) (obstacles : Li
 
   none-taken : (anchor : Point) (honoring : Bool) → takeCells noCells n anchor honoring ≡ []
   unfolding takeCells
-  none-taken anchor honoring = take-none _ anchor honoring (leb n 0)
+  none-taken anchor honoring = take-none (n - 0) anchor honoring (leb n 0)
+
+  none-picked : (strict spread : Bool) (u v : List Point) → u ≡ [] → v ≡ [] → cond strict (cond spread u []) v ≡ []
+  none-picked true true u v e f = e
+  none-picked true false u v e f = refl
+  none-picked false spread u v e f = f
+
+  pub no-spots : ringBounds (outer piece) ≡ Nothing → 0 < n → packAround poi piece n ctx obstacles rectangular ≡ []
+  unfolding packAround packLattice latticeValidCells cellsWithin available
+  no-spots box h =
+      rw (box, lt-leb n 0 h, lt-ltb 0 n h)
+      (none-picked (ctx .mode .«strict_obstacles») (ctx .mode .spread) _ _ (none-taken _ true) (none-taken _ false))

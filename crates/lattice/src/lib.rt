@@ -7,4 +7,5 @@ pub mod near;
 pub mod nearest;
 pub mod rows;
 pub mod span;
+pub mod spread;
 pub mod uniform;

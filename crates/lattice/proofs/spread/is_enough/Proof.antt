@@ -7,8 +7,8 @@ use native.Mathlib.Omega.{arith}
 use borrow.Author.Needs.{needs}
 use borrow.Author.Tests.{le-leb, lt-leb}
 use Rattle.lattice.specs.Spread.{enough-shift}
-use Rattle.lattice.proofs.uniform.is_enough.Statement.{statement}
-use Rattle.lattice.proofs.uniform.is_enough.Tie as tie
+use Rattle.lattice.proofs.spread.is_enough.Statement.{statement}
+use Rattle.lattice.proofs.spread.is_enough.Tie as tie
 
 returns : tie.Need-returns
 returns c =

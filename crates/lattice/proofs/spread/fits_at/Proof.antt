@@ -4,8 +4,8 @@ use mathlib.Core.Path.{_∙_}
 use borrow.Author.Needs.{needs}
 use Rattle.lattice.specs.Spread.{fieldFits}
 use Rattle.lattice.specs.Uniform.{available}
-use Rattle.lattice.proofs.uniform.fits_at.Statement.{statement}
-use Rattle.lattice.proofs.uniform.fits_at.Tie as tie
+use Rattle.lattice.proofs.spread.fits_at.Statement.{statement}
+use Rattle.lattice.proofs.spread.fits_at.Tie as tie
 
 returns : tie.Need-returns
 unfolding fieldFits available

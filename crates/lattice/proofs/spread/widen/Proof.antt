@@ -6,8 +6,8 @@ use borrow.Author.Needs.{needs}
 use Rattle.glyphs.specs.Rect.{rectangles}
 use Rattle.regions.specs.Ring.{pieceOf}
 use Rattle.lattice.specs.Spread.{fieldWiden, widen-stop, widen-up, widen-down, widen-end}
-use Rattle.lattice.proofs.uniform.widen.Statement.{statement}
-use Rattle.lattice.proofs.uniform.widen.Tie as tie
+use Rattle.lattice.proofs.spread.widen.Statement.{statement}
+use Rattle.lattice.proofs.spread.widen.Tie as tie
 
 abbrev Inv-loop : tie.InvT-loop
 Inv-loop field sizes coords margin near n honoring s-max low high lo₀ hi₀ turns₀ lo hi turns =

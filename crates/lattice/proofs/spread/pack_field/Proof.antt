@@ -15,8 +15,8 @@ use Rattle.lattice.specs.Around.{pack-strict, pack-short, pack-wide}
 use Rattle.lattice.specs.Flat.{flat}
 use Rattle.lattice.specs.Spread.{withSpacing, fieldTake, fieldPack}
 use Rattle.lattice.specs.declared.rows.Field.{Field}
-use Rattle.lattice.proofs.uniform.pack_field.Statement.{statement}
-use Rattle.lattice.proofs.uniform.pack_field.Tie as tie
+use Rattle.lattice.proofs.spread.pack_field.Statement.{statement}
+use Rattle.lattice.proofs.spread.pack_field.Tie as tie
 
 returns : tie.Need-returns
 returns c =

@@ -17,8 +17,8 @@ use Rattle.lattice.specs.Lattice.{never, sortByAnchor}
 use Rattle.lattice.specs.Spread.{fieldTake}
 use Rattle.lattice.specs.Taken.{filled, taken, none-if-le, kept-le, kept-lengths, fill}
 use Rattle.lattice.specs.Tally.{cellsOf}
-use Rattle.lattice.proofs.uniform.take_cells.Statement.{statement}
-use Rattle.lattice.proofs.uniform.take_cells.Tie as tie
+use Rattle.lattice.proofs.spread.take_cells.Statement.{statement}
+use Rattle.lattice.proofs.spread.take_cells.Tie as tie
 
 -- what was gathered is no more than was wanted
 bounds : (c : tie.After-gather-cells) → (c .gather-cells .result .free ≤ c .before .before .before .before .before .before .before .before .before .args .n) × (c .gather-cells .result .blocked ≤ c .before .before .before .none-if .result)

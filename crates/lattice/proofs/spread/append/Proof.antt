@@ -9,8 +9,8 @@ use borrow.Author.Needs.{needs}
 use lib.ListN.{length, getD, set, length-set}
 use lib.Seq.{paste, paste-zero, paste-suc}
 use lib.Ieee.{Float, nan}
-use Rattle.lattice.proofs.uniform.append.Statement.{statement}
-use Rattle.lattice.proofs.uniform.append.Tie as tie
+use Rattle.lattice.proofs.spread.append.Statement.{statement}
+use Rattle.lattice.proofs.spread.append.Tie as tie
 
 abbrev Inv-loop : tie.InvT-loop
 Inv-loop spots₀ at cells m a e i₀ spots i = (i ≤ e) × (a ≡ at * 2) × (e ≡ m * 2) × (length spots ≡ length spots₀) × (spots ≡ paste spots₀ (at * 2) cells i)

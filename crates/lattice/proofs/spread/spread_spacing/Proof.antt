@@ -2,8 +2,8 @@
 -- Rests on the contracts of its calls.
 use borrow.Author.Needs.{needs}
 use Rattle.lattice.specs.Spread.{fieldSpacing}
-use Rattle.lattice.proofs.uniform.spread_spacing.Statement.{statement}
-use Rattle.lattice.proofs.uniform.spread_spacing.Tie as tie
+use Rattle.lattice.proofs.spread.spread_spacing.Statement.{statement}
+use Rattle.lattice.proofs.spread.spread_spacing.Tie as tie
 
 returns : tie.Need-returns
 unfolding fieldSpacing
