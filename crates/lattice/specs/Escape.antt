@@ -11,6 +11,8 @@ use Rattle.glyphs.specs.declared.rect.Rectangle.{Rectangle}
 use Rattle.glyphs.specs.Rect.{clearOfObstacles}
 use Rattle.regions.specs.Ring.{Piece}
 use Rattle.regions.specs.Clearance.{signedClearance}
+use Rattle.lattice.specs.declared.escape.Best.{Best}
+use Rattle.lattice.specs.declared.escape.Best.the-variants.{Nothing, Found}
 
 -- (x, y)
 abbrev pub point : Float → Float → Point
@@ -24,15 +26,10 @@ squaredDistance a b = (a .x -ᶠ b .x) *ᶠ (a .x -ᶠ b .x) +ᶠ (a .y -ᶠ b .
 abbrev pub 1e-9ᶠ : Float
 1e-9ᶠ = literal 0x3e11_2e0b_e826_d695
 
--- `best`: none, or the squared distance and the candidate
-pub data Best : Type 0 where
-  none : Best
-  some : Float → Point → Best
-
--- nearer to the anchor, then of smaller x, then of smaller y
+-- `best`, nothing or the squared distance and the candidate: nearer to the anchor, then of smaller x, then of smaller y
 abbrev pub better : Best → Float → Point → Bool
-better none d p = true
-better (some best-d best-p) d p = isLt (totalCmp d best-d thenBy totalCmp (p .x) (best-p .x) thenBy totalCmp (p .y) (best-p .y))
+better Nothing d p = true
+better (Found best-d best-p) d p = isLt (totalCmp d best-d thenBy totalCmp (p .x) (best-p .x) thenBy totalCmp (p .y) (best-p .y))
 
 -- the axis exits of an obstacle, a hair past its clearance ring
 unfoldable pub exits : Point → Float → Rectangle → List Point
@@ -47,15 +44,19 @@ unfoldable pub consider : Point → Piece → List Rectangle → Float → Best 
 consider anchor piece obstacles clearance best p =
     let d = squaredDistance p anchor in
     cond (not (clearOfObstacles (p .x) (p .y) obstacles clearance) || signedClearance (p .x) (p .y) piece <ᶠ clearance) best
-    (cond (better best d p) (some d p) best)
+    (cond (better best d p) (Found d p) best)
 
 -- best.map_or(anchor, |(_, p)| p)
 abbrev pub orAnchor : Point → Best → Point
-orAnchor anchor none = anchor
-orAnchor anchor (some d p) = p
+orAnchor anchor Nothing = anchor
+orAnchor anchor (Found d p) = p
+
+-- the best of all obstacles' exits
+unfoldable pub bestExit : Point → Piece → List Rectangle → Float → Best
+bestExit anchor piece obstacles clearance =
+    let pad = clearance *ᶠ (1ᶠ +ᶠ 1e-9ᶠ) in
+    foldl (λ (best : Best) (rect : Rectangle). foldl (consider anchor piece obstacles clearance) best (exits anchor pad rect)) Nothing obstacles
 
 unfoldable pub escapeObstacles : Point → Piece → List Rectangle → Float → Point
 escapeObstacles anchor piece obstacles clearance =
-    let pad = clearance *ᶠ (1ᶠ +ᶠ 1e-9ᶠ) in
-    cond (clearOfObstacles (anchor .x) (anchor .y) obstacles clearance) anchor
-    (orAnchor anchor (foldl (λ (best : Best) (rect : Rectangle). foldl (consider anchor piece obstacles clearance) best (exits anchor pad rect)) none obstacles))
+    cond (clearOfObstacles (anchor .x) (anchor .y) obstacles clearance) anchor (orAnchor anchor (bestExit anchor piece obstacles clearance))

@@ -39,7 +39,7 @@ unfolding flat
 length-flat [] = refl
 length-flat (p ∷ ps) = rw (length-flat ps) (omega arith)
 
-flat-append : (ps qs : List Point) → flat (ps ++ qs) ≡ flat ps ++ flat qs
+pub flat-append : (ps qs : List Point) → flat (ps ++ qs) ≡ flat ps ++ flat qs
 unfolding flat
 flat-append [] qs = refl
 flat-append (p ∷ ps) qs = rw (flat-append ps qs)
@@ -199,3 +199,9 @@ pub full : {A : Type 0} (cap k : ℕ) (xs : List A) (x : A) → k ≤ length xs 
 full cap k xs x h g i =
     let e : cap ≡ length xs = omega arith in
     rw (take-all k xs (omega arith), e) (take-append-seam xs (x ∷ drop k xs))
+
+pub flat-take : (q : ℕ) (ps : List Point) → flat (take q ps) ≡ take (q * 2) (flat ps)
+unfolding flat
+flat-take zero ps = refl
+flat-take (suc q) [] = sym (rw (twice q))
+flat-take (suc q) (p ∷ ps) = rw (twice q, flat-take q ps)

@@ -1,10 +1,16 @@
+pub mod Around
 pub mod Context
 pub mod Escape
 pub mod Flat
+pub mod Gather
+pub mod Held
 pub mod Keys
 pub mod Lattice
+pub mod Near
 pub mod Nearest
 pub mod Rows
 pub mod Span
+pub mod Spread
+pub mod Taken
 pub mod Tally
 pub mod Uniform

@@ -69,9 +69,12 @@ module _ (piece : Piece) (n : ℕ) (ctx : PackCtx) (rectangular : Bool) (near : 
       (cond (ltb (available honoring at-min) n || not (ctx .mode .spread)) (takeCells at-min n anchor honoring)
       (spreadCells (ringBounds (outer piece)) at-min honoring))
 
--- from the deepest point, moved off the obstacles
+-- the deepest point, moved off the obstacles
+unfoldable pub anchorOf : Point → Piece → List Rectangle → Float → Point
+anchorOf poi piece near inset = cond (eqb (length near) 0) poi (escapeObstacles poi piece near inset)
+
+-- the spots about a piece's deepest point
 unfoldable pub packAround : Point → Piece → ℕ → PackCtx → List Rectangle → Bool → List Point
 packAround poi piece n ctx obstacles rectangular =
     let near = localTo piece obstacles (inset ctx) in
-    let anchor = cond (eqb (length near) 0) poi (escapeObstacles poi piece near (inset ctx)) in
-    packLattice piece n ctx rectangular near anchor
+    packLattice piece n ctx rectangular near (anchorOf poi piece near (inset ctx))

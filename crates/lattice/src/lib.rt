@@ -1,6 +1,11 @@
 // discs.rs: what a packing is at, escapes from obstacles, and the lattice packer.
 pub mod context;
 pub mod count;
+pub mod escape;
+pub mod gather;
+pub mod near;
 pub mod nearest;
 pub mod rows;
 pub mod span;
+pub mod spread;
+pub mod uniform;

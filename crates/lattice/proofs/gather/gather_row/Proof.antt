@@ -1,0 +1,85 @@
+-- `gather_row` meets its contract. The invariant: the cells are those gathered from what the slices hold and the cells which are left.
+-- Rests on the laws of what two slices hold and of a turn over a row.
+use Prim.Native.Nat.{_≤_, _-_, _+_}
+use mathlib.Core.Path.{_≡_, refl, sym, ap, _∙_}
+use native.Mathlib.Nat.{sub-zero}
+use borrow.Author.Needs.{needs}
+use lib.ListN.{length}
+use lib.Ieee.{Float}
+use Rattle.glyphs.specs.Rect.{rectangles}
+use Rattle.regions.specs.Ring.{pieceOf}
+use Rattle.lattice.specs.Escape.{point}
+use Rattle.lattice.specs.Gather.{gatherCell, gather, gathered-fit, row-turn, row-done}
+use Rattle.lattice.specs.Held.{heldIn, Holds, Ready, holds-start, holds-as, turn}
+use Rattle.lattice.specs.Lattice.{HexCells}
+use Rattle.lattice.specs.Rows.{cellsFrom}
+use Rattle.lattice.proofs.gather.gather_row.Statement.{statement}
+use Rattle.lattice.proofs.gather.gather_row.Tie as tie
+
+abbrev Inv-loop : tie.InvT-loop
+Inv-loop row m s sizes coords margin near anchor nf nb free₀ blocked₀ t₀ k₀ free blocked t k =
+    (k ≤ m)
+    × (length free ≡ length free₀)
+    × (length blocked ≡ length blocked₀)
+    × Ready anchor nf nb t free blocked
+    × Holds (heldIn t free blocked) t free blocked free₀ blocked₀
+    × (gather (pieceOf sizes coords) (margin .least) (rectangles near) anchor nf nb (heldIn t₀ free₀ blocked₀) (cellsFrom row s 0 m)
+    ≡ gather (pieceOf sizes coords) (margin .least) (rectangles near) anchor nf nb (heldIn t free blocked) (cellsFrom row s k (m - k)))
+
+abbrev μ-loop : tie.MeasureT-loop
+μ-loop row m s sizes coords margin near anchor nf nb free₀ blocked₀ t₀ k₀ free blocked t k = m - k
+
+loop-holds : tie.Need-loop-holds Inv-loop μ-loop
+loop-holds c =
+    let s = c .before .before .before .before .before in
+    let a = s .args in
+    (search needs, refl, refl, s .pre .2, holds-start (a .anchor) (a .nf) (a .nb) (a .start) (a .free .now) (a .blocked .now) (s .pre .2), simp sub-zero)
+
+gather-cell-requires : tie.Need-gather-cell-requires Inv-loop μ-loop
+gather-cell-requires c κs =
+    let l = c .before .before .before .before .loop in
+    (c .before .before .before .before .before .before .before .before .before .before .pre .0, l .inv .3)
+
+loop-again : tie.Need-loop-again Inv-loop μ-loop
+loop-again c =
+    let called = c .before .before .before .before in
+    let placed = called .before .before .before in
+    let l = placed .before .before .loop in
+    let a = placed .before .before .before .before .before .before .before .before .args in
+    let piece = pieceOf (a .sizes .now) (a .coords .now) in
+    let near = rectangles (a .near .now) in
+    let cells = heldIn (l .t) (l .free) (l .blocked) in
+    let p = point (placed .cell-x .result) (a .row .y) in
+    let held =
+    turn (a .anchor) (a .nf) (a .nb) (l .t) (l .free) (l .blocked) (l .inv .3) (a .free .now) (a .blocked .now) (l .inv .4)
+    (gatherCell piece (a .margin .least) near (a .anchor) (a .nf) (a .nb) cells p)
+    (gathered-fit piece (a .margin .least) near (a .anchor) (a .nf) (a .nb) cells p (l .inv .3 .fit)) _ _ _ (called .gather-cell .ensures) in (
+      search needs,
+      held .3 ∙ l .inv .1,
+      held .4 ∙ l .inv .2,
+      held .1,
+      held .2,
+      l .inv .5
+          ∙ row-turn piece (a .margin .least) near (a .anchor) (a .nf) (a .nb) cells (a .row) (a .s) (l .k) (a .m) (placed .before .loop-test .taken)
+          ∙ ap (λ (later : HexCells). gather piece (a .margin .least) near (a .anchor) (a .nf) (a .nb) later (cellsFrom (a .row) (a .s) (l .k + 1) (a .m - (l .k + 1))))
+          (ap (λ (x : Float). gatherCell piece (a .margin .least) near (a .anchor) (a .nf) (a .nb) cells (point x (a .row .y))) (sym (placed .cell-x .ensures)) ∙ sym (held .0)),
+    )
+
+returns : tie.Need-returns Inv-loop μ-loop
+returns c =
+    let l = c .before .loop in
+    holds-as (l .inv .4) (sym (l .inv .5 ∙ row-done _ _ _ _ _ _ _ _ _ _ _ (c .loop-test .left)))
+
+pub gather-row-spec : {M : Type 1} → statement M
+gather-row-spec =
+    tie.close
+    (tie.spec Inv-loop μ-loop
+    loop-holds
+    (λ c κs. search needs)
+    gather-cell-requires
+    (λ c. search needs)
+    (λ c. search needs)
+    loop-again
+    (λ c. search needs)
+    (λ c. search needs)
+    returns)

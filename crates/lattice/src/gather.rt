@@ -1,0 +1,222 @@
+// discs.rs, `lattice_valid_cells` and `sort_by_anchor`: of the free cells and of the blocked ones those nearest to
+// the anchor, in order.
+ghost use mathlib.Core.Path.{_≡_};
+ghost use Prim.Native.Nat.{_*_, _≤_};
+ghost use lib.ListN.{length};
+ghost use Rattle.glyphs.specs.Rect.{rectangles};
+ghost use Rattle.regions.specs.Ring.{pieceOf};
+ghost use Rattle.lattice.specs.Gather.{kept, gatherCell, gather};
+ghost use Rattle.lattice.specs.Held.{heldIn, Holds, Ready};
+ghost use Rattle.lattice.specs.Lattice.{hexEnumCap, never};
+ghost use Rattle.lattice.specs.Rows.{width, cellsFrom, visit};
+ghost use Rattle.lattice.specs.Tally.{Sound, cellsOf};
+use crate::count::Counts;
+use crate::nearest::keep;
+use crate::rows::Field;
+use crate::rows::Row;
+use crate::rows::cell_x;
+use crate::rows::row_at;
+use crate::rows::row_height;
+use crate::span::ceil_rank;
+use crate::span::floor_rank;
+use crate::span::many;
+use glyphs::rect::Point;
+use glyphs::rect::clear_of_obstacles;
+use glyphs::rect::is_finite;
+use regions::margin::Margin;
+use regions::margin::clears;
+
+// One more cell, among at most `nf` free and `nb` blocked ones.
+fn gather_cell(
+    p: Point,
+    sizes: &[usize],
+    coords: &[f64],
+    margin: Margin,
+    near: &[f64],
+    anchor: Point,
+    nf: usize,
+    nb: usize,
+    free: &mut [f64],
+    blocked: &mut [f64],
+    t: Counts,
+) -> Counts
+    requires { ⌜ Sound (now sizes) (now coords) margin × Ready anchor nf nb t (now free) (now blocked) ⌝ }
+    ensures { λ r. ⌜ Holds (gatherCell (pieceOf (now (sizes .entry)) (now (coords .entry))) (margin .least) (rectangles (now (near .entry))) anchor nf nb (heldIn t (now (free .entry)) (now (blocked .entry))) p) r (now (free .exit)) (now (blocked .exit)) (now (free .entry)) (now (blocked .entry)) ⌝ }
+{
+    if !clears(p.x, p.y, sizes, coords, margin) {
+        return t;
+    }
+    if clear_of_obstacles(p.x, p.y, near, margin.least) {
+        let m = keep(&mut free[..], t.free, nf, anchor, p);
+        return Counts {
+            free: m,
+            blocked: t.blocked,
+        };
+    }
+    let m = keep(&mut blocked[..], t.blocked, nb, anchor, p);
+    Counts {
+        free: t.free,
+        blocked: m,
+    }
+}
+
+// The first `m` cells of a row.
+fn gather_row(
+    row: Row,
+    m: usize,
+    s: f64,
+    sizes: &[usize],
+    coords: &[f64],
+    margin: Margin,
+    near: &[f64],
+    anchor: Point,
+    nf: usize,
+    nb: usize,
+    free: &mut [f64],
+    blocked: &mut [f64],
+    start: Counts,
+) -> Counts
+    requires { ⌜ Sound (now sizes) (now coords) margin × (m ≤ width row) × Ready anchor nf nb start (now free) (now blocked) ⌝ }
+    ensures { λ r. ⌜ Holds (gather (pieceOf (now (sizes .entry)) (now (coords .entry))) (margin .least) (rectangles (now (near .entry))) anchor nf nb (heldIn start (now (free .entry)) (now (blocked .entry))) (cellsFrom row s 0 m)) r (now (free .exit)) (now (blocked .exit)) (now (free .entry)) (now (blocked .entry)) ⌝ }
+{
+    let mut t = start;
+    let mut k = 0;
+    while k < m {
+        let p = Point {
+            x: cell_x(row, s, k),
+            y: row.y,
+        };
+        t = gather_cell(
+            p,
+            sizes,
+            coords,
+            margin,
+            near,
+            anchor,
+            nf,
+            nb,
+            &mut free[..],
+            &mut blocked[..],
+            t,
+        );
+        k += 1;
+    }
+    t
+}
+
+// All rows, or up to the cell that is the last to be visited.
+fn gather_rows(
+    field: Field,
+    row_h: f64,
+    first: u64,
+    last: u64,
+    sizes: &[usize],
+    coords: &[f64],
+    margin: Margin,
+    near: &[f64],
+    nf: usize,
+    nb: usize,
+    free: &mut [f64],
+    blocked: &mut [f64],
+    start: Counts,
+) -> Counts
+    requires { ⌜ Sound (now sizes) (now coords) margin × (first ≤ last) × Ready (field .anchor) nf nb start (now free) (now blocked) ⌝ }
+    ensures { λ r. ⌜ Holds (gather (pieceOf (now (sizes .entry)) (now (coords .entry))) (margin .least) (rectangles (now (near .entry))) (field .anchor) nf nb (heldIn start (now (free .entry)) (now (blocked .entry))) (visit hexEnumCap field «row_h» first last)) r (now (free .exit)) (now (blocked .exit)) (now (free .entry)) (now (blocked .entry)) ⌝ }
+{
+    let s = field.lattice.spacing;
+    let anchor = field.anchor;
+    let mut t = start;
+    let mut left = 1_000_000;
+    let mut u = first;
+    while u < last {
+        let row = row_at(field, row_h, u);
+        let m = many(row.first, row.last, left);
+        t = gather_row(
+            row,
+            m,
+            s,
+            sizes,
+            coords,
+            margin,
+            near,
+            anchor,
+            nf,
+            nb,
+            &mut free[..],
+            &mut blocked[..],
+            t,
+        );
+        left -= m;
+        if left == 0 {
+            return t;
+        }
+        u += 1;
+    }
+    let row = row_at(field, row_h, last);
+    let m = many(row.first, row.last, left);
+    gather_row(
+        row,
+        m,
+        s,
+        sizes,
+        coords,
+        margin,
+        near,
+        anchor,
+        nf,
+        nb,
+        &mut free[..],
+        &mut blocked[..],
+        t,
+    )
+}
+
+// The nearest of the free cells and of the blocked ones.
+pub fn gather_cells(
+    field: Field,
+    sizes: &[usize],
+    coords: &[f64],
+    margin: Margin,
+    near: &[f64],
+    nf: usize,
+    nb: usize,
+    free: &mut [f64],
+    blocked: &mut [f64],
+) -> Counts
+    requires { ⌜ Sound (now sizes) (now coords) margin × (nf * 2 ≤ length (now free)) × (nb * 2 ≤ length (now blocked)) ⌝ }
+    ensures { λ r. ⌜ Holds (kept (field .anchor) nf nb (cellsOf field (pieceOf (now (sizes .entry)) (now (coords .entry))) (margin .least) (rectangles (now (near .entry))) never)) r (now (free .exit)) (now (blocked .exit)) (now (free .entry)) (now (blocked .entry)) ⌝ }
+{
+    let s = field.lattice.spacing;
+    let start = Counts {
+        free: 0,
+        blocked: 0,
+    };
+    if s <= 0.0 {
+        return start;
+    }
+    if !is_finite(s) {
+        return start;
+    }
+    let lattice = field.lattice;
+    let row_h = row_height(lattice);
+    let first = floor_rank((field.min_y - field.anchor.y) / row_h);
+    let last = ceil_rank((field.max_y - field.anchor.y) / row_h);
+    if last < first {
+        return start;
+    }
+    gather_rows(
+        field,
+        row_h,
+        first,
+        last,
+        sizes,
+        coords,
+        margin,
+        near,
+        nf,
+        nb,
+        &mut free[..],
+        &mut blocked[..],
+        start,
+    )
+}
