@@ -7,3 +7,4 @@ pub mod ZoneLaws
 pub mod JobLaws
 pub mod Rows
 pub mod Known
+pub mod Examples

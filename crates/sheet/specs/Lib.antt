@@ -1,3 +1,4 @@
 pub mod Sheet
 pub mod Back
 pub mod Laws
+pub mod Examples
