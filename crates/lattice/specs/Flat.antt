@@ -10,11 +10,8 @@ use lib.Seq.{take-all, take-suc, drop-cons, take-at, set-at, getD-take, take-tak
 use lib.Ieee.{Float, nan}
 use Rattle.laws.specs.Lists.{written}
 use Rattle.glyphs.specs.declared.rect.Point.{Point}
+use Rattle.glyphs.specs.Spots.{flat, length-flat}
 use Rattle.lattice.specs.Escape.{point}
-
-unfoldable pub flat : List Point → List Float
-flat [] = []
-flat (p ∷ ps) = p .x ∷ p .y ∷ flat ps
 
 -- the first m points of a slice
 unfoldable pub points : ℕ → List Float → List Point
@@ -33,11 +30,6 @@ moved l a b = take (a + 2) l ++ (take (b - a) (drop a l) ++ drop (b + 2) l)
 -- ---- what is held
 twice : (m : ℕ) → suc m * 2 ≡ suc (suc (m * 2))
 twice m = omega arith
-
-pub length-flat : (ps : List Point) → length (flat ps) ≡ length ps * 2
-unfolding flat
-length-flat [] = refl
-length-flat (p ∷ ps) = rw (length-flat ps) (omega arith)
 
 pub flat-append : (ps qs : List Point) → flat (ps ++ qs) ≡ flat ps ++ flat qs
 unfolding flat

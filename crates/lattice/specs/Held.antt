@@ -16,7 +16,8 @@ use Rattle.glyphs.specs.declared.rect.Rectangle.{Rectangle}
 use Rattle.glyphs.specs.Rect.{clearOfObstacles}
 use Rattle.regions.specs.Ring.{Piece}
 use Rattle.regions.specs.Clearance.{signedClearance}
-use Rattle.lattice.specs.Flat.{flat, points, length-flat, written-points, written-same}
+use Rattle.glyphs.specs.Spots.{flat, length-flat}
+use Rattle.lattice.specs.Flat.{points, written-points, written-same}
 use Rattle.lattice.specs.Gather.{Fit, Grown, gatherCell}
 use Rattle.lattice.specs.Lattice.{HexCells, noCells, byAnchor}
 use Rattle.lattice.specs.Tally.{countsOf, none}

@@ -9,7 +9,8 @@ use lib.Ieee.{Float}
 use Rattle.laws.specs.Bounded.{insertBehind, lead, at-lead, lead-le}
 use Rattle.laws.specs.Lists.{written}
 use Rattle.glyphs.specs.declared.rect.Point.{Point}
-use Rattle.lattice.specs.Flat.{flat, points, moved, length-points, put-among, written-same, capped, full}
+use Rattle.glyphs.specs.Spots.{flat}
+use Rattle.lattice.specs.Flat.{points, moved, length-points, put-among, written-same, capped, full}
 
 module _ (cmp : Point → Point → Ordering) (l : List Float) (m cap k : ℕ) (p : Point) (h : m ≤ cap) (room : cap * 2 ≤ length l) (at : k ≡ lead cmp p (points m l)) where
   held : length (points m l) ≡ m

@@ -12,7 +12,8 @@ use lib.Seq.{take-all, take-nil, take-take, take-at, paste, take-append-le, drop
 use lib.Ieee.{Float}
 use Rattle.laws.specs.Lists.{written, length-written}
 use Rattle.glyphs.specs.declared.rect.Point.{Point}
-use Rattle.lattice.specs.Flat.{flat, length-flat, flat-append, flat-take, first-of}
+use Rattle.glyphs.specs.Spots.{flat, length-flat}
+use Rattle.lattice.specs.Flat.{flat-append, flat-take, first-of}
 use Rattle.lattice.specs.Gather.{kept}
 use Rattle.lattice.specs.Held.{Holds}
 use Rattle.lattice.specs.Lattice.{HexCells, takeCells, sortByAnchor}

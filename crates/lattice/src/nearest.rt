@@ -7,7 +7,8 @@ ghost use Rattle.laws.specs.Lists.{written};
 ghost use Rattle.laws.specs.Orders.{isLt};
 ghost use Rattle.laws.specs.Sorted.{Ascending};
 ghost use Rattle.lattice.specs.Escape.{squaredDistance};
-ghost use Rattle.lattice.specs.Flat.{flat, points, pointAt, moved};
+ghost use Rattle.glyphs.specs.Spots.{flat};
+ghost use Rattle.lattice.specs.Flat.{points, pointAt, moved};
 ghost use Rattle.lattice.specs.Lattice.{byAnchor};
 use glyphs::rect::Point;
 

@@ -8,7 +8,7 @@ ghost use lib.Seq.{paste};
 ghost use Rattle.laws.specs.Lists.{written};
 ghost use Rattle.glyphs.specs.Rect.{rectangles};
 ghost use Rattle.regions.specs.Ring.{pieceOf};
-ghost use Rattle.lattice.specs.Flat.{flat};
+ghost use Rattle.glyphs.specs.Spots.{flat};
 ghost use Rattle.lattice.specs.Spread.{withSpacing, fieldFits, fieldWiden, fieldSpacing, fieldTake, fieldPack};
 ghost use Rattle.lattice.specs.Tally.{Sound};
 use crate::context::Lattice;

@@ -8,7 +8,7 @@ ghost use Rattle.glyphs.specs.Bounds.{ringBounds};
 ghost use Rattle.glyphs.specs.Rect.{rectangles};
 ghost use Rattle.regions.specs.Ring.{sum, outer, pieceOf};
 ghost use Rattle.lattice.specs.Around.{fieldAt};
-ghost use Rattle.lattice.specs.Flat.{flat};
+ghost use Rattle.glyphs.specs.Spots.{flat};
 ghost use Rattle.lattice.specs.Uniform.{anchorOf, packAround};
 use crate::context::Lattice;
 use crate::context::PackCtx;

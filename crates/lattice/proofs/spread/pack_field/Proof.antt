@@ -12,7 +12,7 @@ use Rattle.glyphs.specs.declared.rect.Point.{Point}
 use Rattle.glyphs.specs.Rect.{rectangles}
 use Rattle.regions.specs.Ring.{pieceOf}
 use Rattle.lattice.specs.Around.{pack-strict, pack-short, pack-wide}
-use Rattle.lattice.specs.Flat.{flat}
+use Rattle.glyphs.specs.Spots.{flat}
 use Rattle.lattice.specs.Spread.{withSpacing, fieldTake, fieldPack}
 use Rattle.lattice.specs.declared.rows.Field.{Field}
 use Rattle.lattice.proofs.spread.pack_field.Statement.{statement}

@@ -11,7 +11,7 @@ use Rattle.laws.specs.Lists.{written}
 use Rattle.glyphs.specs.declared.rect.Point.{Point}
 use Rattle.glyphs.specs.Rect.{rectangles}
 use Rattle.regions.specs.Ring.{pieceOf}
-use Rattle.lattice.specs.Flat.{flat}
+use Rattle.glyphs.specs.Spots.{flat}
 use Rattle.lattice.specs.Gather.{kept}
 use Rattle.lattice.specs.Lattice.{never, sortByAnchor}
 use Rattle.lattice.specs.Spread.{fieldTake}

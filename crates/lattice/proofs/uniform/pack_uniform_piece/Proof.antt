@@ -13,7 +13,7 @@ use Rattle.glyphs.specs.Rect.{rectangles, obstaclesNear}
 use Rattle.regions.specs.Margin.{least-of-margin, margin-own}
 use Rattle.regions.specs.Ring.{pieceOf}
 use Rattle.lattice.specs.Around.{around-is, no-spots}
-use Rattle.lattice.specs.Flat.{flat}
+use Rattle.glyphs.specs.Spots.{flat}
 use Rattle.lattice.proofs.uniform.pack_uniform_piece.Statement.{statement}
 use Rattle.lattice.proofs.uniform.pack_uniform_piece.Tie as tie
 
