@@ -1,4 +1,5 @@
 pub mod Apart
+pub mod Claim
 pub mod Counts
 pub mod Fair
 pub mod FairExamples
