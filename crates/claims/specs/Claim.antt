@@ -82,7 +82,7 @@ module _ (options : GlyphOptions) (pillars : List Rectangle) (radius : Float) wh
     pub own : entry .spots ≡ flat (flatten (placed .spots))
     pub pieces : OwnPieces (placed .zone .pieces) (quotas (placed .zone)) (placed .spots)
     -- the quotas add up to the count, also at radius 0
-    pub sum : assigned (quotas (placed .zone)) ≡ placed .zone .count
+    pub quotas-sum : assigned (quotas (placed .zone)) ≡ placed .zone .count
     -- the computed areas are numbers, and not negative
     pub weights : Weights (areas (placed .zone .pieces))
     -- where some piece has positive computed area, each quota is less than 1 + 2 ^ -20 away from its exact share, count * area / sum of the areas

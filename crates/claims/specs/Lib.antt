@@ -1,10 +1,15 @@
 pub mod Apart
 pub mod Claim
 pub mod Counts
+pub mod Darts
 pub mod Fair
 pub mod FairExamples
 pub mod HandOut
+pub mod Kept
+pub mod Lattices
+pub mod Measures
 pub mod Relaxed
+pub mod Scattered
 pub mod Thrown
 pub mod Unshared
 pub mod Walk

@@ -30,7 +30,8 @@ use Rattle.relax.specs.declared.field.Acceptance.{Acceptance}
 use Rattle.relax.specs.declared.field.Acceptance.the-variants.{Clear, Refused}
 use Rattle.relax.specs.Field.{fieldOf, at, forceOn, accepts, clearOfOthers}
 use Rattle.relax.specs.Scatter.{Scatter, Surroundings, settle, stepped, tryStep, relaxPoint, maxStepOf, relaxSweep, relaxSweeps, clearancesOf, honoringOf, idle, relaxScatter}
-use Rattle.claims.specs.Walk.{Inset, Unblocked, Fits, Stands}
+use Rattle.claims.specs.Claim.{Inset}
+use Rattle.claims.specs.Kept.{Unblocked, Fits, Stands, Kept}
 
 -- ---- one element replaced
 every-set : {A : Type 0} (P : A → Type 0) (xs : List A) (i : ℕ) (c : A) → Every P xs → (i < length xs → P c) → Every P (set xs i c)
@@ -167,12 +168,6 @@ module _
       let maxStep = maxStepOf numbers (field .spacing) sweep in
       folded honoring (relaxPoint numbers (surroundings honoring) maxStep) (at-point honoring maxStep) s (upTo (length (s .points))) l
 
-  -- the marks after all sweeps
-  pub record Relaxed (points : List Point) : Type 0 where
-    pub insets : Every (Stands piece inset) points
-    pub unblocked : T strict → Every (Unblocked obstacles inset) points
-    pub apart : Pairwise R points
-
   flagged :
       (points : List Point) → (T strict → Every (Unblocked obstacles inset) points) → (i : ℕ) → i < length points → T strict
       → T (getD (honoringOf obstacles inset points) i false)
@@ -188,7 +183,7 @@ module _
   unfolding relaxSweeps
   all-swept honoring s l = folded honoring (relaxSweep numbers (surroundings honoring)) (swept honoring) s (upTo (numbers .sweeps)) l
 
-  pub relaxed : (points : List Point) → Relaxed points → Relaxed (relaxScatter numbers points piece obstacles spacing inset)
+  pub relaxed : (points : List Point) → Kept piece inset obstacles R strict points → Kept piece inset obstacles R strict (relaxScatter numbers points piece obstacles spacing inset)
   unfolding relaxScatter
   relaxed points r = go (idle (length points) spacing)
     where
@@ -204,6 +199,6 @@ module _
       l : Loose honoring end
       l = all-swept honoring start (record { insets = r .insets; unblocked = r .unblocked; apart = r .apart; flags = flagged points (r .unblocked) })
 
-      go : (b : Bool) → Relaxed (cond b points (end .points))
+      go : (b : Bool) → Kept piece inset obstacles R strict (cond b points (end .points))
       go true = r
       go false = record { insets = l .insets; unblocked = l .unblocked; apart = l .apart }

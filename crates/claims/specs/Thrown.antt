@@ -24,13 +24,7 @@ use Rattle.lattice.specs.Context.{inset, spacing}
 use Rattle.lattice.specs.Escape.{point, squaredDistance}
 use Rattle.scatter.specs.LowDiscrepancy.{Anchor, none, some, budget, candidate, apart, admits, pass, passes}
 use Rattle.scatter.specs.Random.{Thrown, Dart, hit, miss, afterDart, lands, throw, glyphs, throws}
-use Rattle.claims.specs.Walk.{Unblocked, Fits, Stands}
-
--- what holds of the marks placed: R of each and those after it
-pub record Kept (piece : Piece) (clear : Float) (near : List Rectangle) (R : Point → Point → Type 0) (honor : Bool) (placed : List Point) : Type 0 where
-  pub insets : Every (Stands piece clear) placed
-  pub unblocked : T honor → Every (Unblocked near clear) placed
-  pub apart : Pairwise R placed
+use Rattle.claims.specs.Kept.{Unblocked, Fits, Stands, Kept, none-kept, less-kept}
 
 three : (a b c : Bool) → T (a && b && c) → T a × T b × T c
 three true true c t = (tt, tt, t)
@@ -41,13 +35,6 @@ three false b c t = absurd t
 honored : (h c : Bool) → T (not h || c) → T h → T c
 honored true c t u = t
 honored false c t u = absurd u
-
-pub none-kept : (piece : Piece) (clear : Float) (near : List Rectangle) (R : Point → Point → Type 0) (honor : Bool) → Kept piece clear near R honor []
-none-kept piece clear near R honor = record { insets = tt; unblocked = λ t. tt; apart = tt }
-
--- a pass without obstacles keeps the rest
-pub less-kept : {piece : Piece} {clear : Float} {near : List Rectangle} {R : Point → Point → Type 0} {honor : Bool} {placed : List Point} → Kept piece clear near R honor placed → Kept piece clear near R false placed
-less-kept k = record { insets = k .insets; unblocked = λ t. absurd t; apart = k .apart }
 
 -- one more mark
 more-kept :

@@ -6,7 +6,7 @@ use mathlib.Core.List.{List, [], _∷_, _++_}
 use Prim.Native.Nat.{ℕ, zero, suc, _-_}
 use lib.Dec.{T, leb}
 use lib.ListN.{length, take}
-use lib.Ieee.{Float, binary64, fits}
+use lib.Ieee.{Float}
 use Rattle.laws.specs.Every.{Every, every-append, every-take, every-sort, every-weaken, Pairwise, pairwise-append, pairwise-take, pairwise-sort}
 use Rattle.float.specs.Ops.{_≥ᶠ_}
 use Rattle.glyphs.specs.declared.rect.Point.{Point}
@@ -15,22 +15,7 @@ use Rattle.glyphs.specs.Rect.{clearOfObstacles}
 use Rattle.regions.specs.Ring.{Piece}
 use Rattle.regions.specs.Clearance.{signedClearance}
 use Rattle.lattice.specs.Lattice.{HexCells, noCells, Cap, reached, judge, byAnchor, sortByAnchor, takeCells}
-
--- the computed tests of a place
-abbrev pub Inset : Piece → Float → Point → Type 0
-Inset piece inset p = T (signedClearance (p .x) (p .y) piece ≥ᶠ inset)
-
-abbrev pub Unblocked : List Rectangle → Float → Point → Type 0
-Unblocked obstacles inset p = T (clearOfObstacles (p .x) (p .y) obstacles inset)
-
--- 64 bits hold its coordinates
-pub record Fits (p : Point) : Type 0 where
-  pub across : T (fits binary64 (p .x))
-  pub along : T (fits binary64 (p .y))
-
-pub record Stands (piece : Piece) (inset : Float) (p : Point) : Type 0 where
-  pub fits : Fits p
-  pub deep : Inset piece inset p
+use Rattle.claims.specs.Kept.{Unblocked, Fits, Stands}
 
 -- what holds of the cells found: R is any relation of two places that holds both ways
 pub record Sound (piece : Piece) (inset : Float) (obstacles : List Rectangle) (R : Point → Point → Type 0) (cells : HexCells) : Type 0 where

@@ -1,0 +1,38 @@
+-- What the packers' claims ask of a piece and a context: how large the box, the spacing and a place with the inset are.
+-- Definitions only; the size laws of an accepted job give it.
+use Prim.Native.Nat.{ℕ, _*_, _≤_}
+use lib.Ieee.{Float}
+use Rattle.float.specs.Laws.Nan.{Number}
+use Rattle.rounding.specs.Value.{U, mag}
+use Rattle.rounding.specs.Bounds.{Sized}
+use Rattle.rounding.specs.Distance.{Length}
+use Rattle.glyphs.specs.declared.rect.Point.{Point}
+use Rattle.glyphs.specs.declared.bounds.Bounds.{Bounds}
+use Rattle.glyphs.specs.declared.bounds.Bounds.the-variants.{Box, Nothing}
+use Rattle.glyphs.specs.Bounds.{ringBounds}
+use Rattle.regions.specs.Ring.{Piece, outer}
+use Rattle.lattice.specs.declared.context.PackCtx.{PackCtx}
+use Rattle.lattice.specs.Context.{inset, spacing}
+use Rattle.claims.specs.Kept.{Stands, Sited}
+
+-- a spacing that a walk may have, not below the least
+pub record Wide (least s : Float) : Type 0 where
+  pub length : Length s
+  pub short : mag s ≤ 36864 * U
+  pub wide : mag least ≤ mag s
+
+pub record Within (min-x max-x min-y max-y : Float) : Type 0 where
+  pub left : Sized min-x 1024
+  pub right : Sized max-x 1024
+  pub bottom : Sized min-y 1024
+  pub top : Sized max-y 1024
+
+abbrev pub BoxSized : Bounds → Type 0
+BoxSized Nothing = Unit {0}
+BoxSized (Box min-x max-x min-y max-y) = Within min-x max-x min-y max-y
+
+pub record Measures (piece : Piece) (ctx : PackCtx) : Type 0 where
+  pub box : BoxSized (ringBounds (outer piece))
+  pub least : Wide (spacing ctx) (spacing ctx)
+  pub number : Number (inset ctx)
+  pub sited : (p : Point) → Stands piece (inset ctx) p → Sited p
