@@ -1,9 +1,11 @@
 pub mod Apart
 pub mod Counts
+pub mod Crossing
 pub mod Fair
 pub mod FairExamples
 pub mod HandOut
 pub mod Relaxed
+pub mod Straddle
 pub mod Thrown
 pub mod Unshared
 pub mod Walk
