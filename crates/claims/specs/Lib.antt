@@ -10,3 +10,4 @@ pub mod Thrown
 pub mod Unshared
 pub mod Walk
 pub mod Whole
+pub mod Within
