@@ -3,23 +3,21 @@
 use mathlib.Core.Path.{_≡_, refl, sym, ap, _∙_}
 use mathlib.Core.Logic.{_⊎_, inl, inr}
 use mathlib.Core.Bool.{Bool, true, false, not, Bool·beq}
-use Prim.Native.Nat.{ℕ, zero, suc, _+_, _-_, _*_, _^_, _≤_, _<_}
-use native.Mathlib.Nat.{le-trans, le-of-eq, lt-of-lt-of-le, mul-le-mul, mul-le-mul-right, mul-le-mul-left, mul-pos, mul-left-comm}
+use Prim.Native.Nat.{ℕ, zero, suc, _+_, _*_, _^_, _≤_, _<_}
+use native.Mathlib.Nat.{le-trans, mul-le-mul, mul-le-mul-right, mul-le-mul-left, mul-left-comm}
 use native.Mathlib.Omega.{arith}
 use lib.Dec.{T, lit<, lit≤}
-use lib.Pow.{pow-add, pow-pos}
+use lib.Pow.{pow-add}
 use lib.Ieee.{Float, binary64, fits, ofBits}
-use Rattle.laws.specs.Truth.{yes, no}
-use Rattle.float.specs.Ops.{_+ᶠ_, _-ᶠ_, _*ᶠ_, _/ᶠ_, _<ᶠ_, _>ᶠ_, ε}
-use Rattle.float.specs.Laws.Nan.{Number, lt-number}
+use Rattle.float.specs.Ops.{_+ᶠ_, _-ᶠ_, _*ᶠ_, _/ᶠ_, _<ᶠ_, ε}
+use Rattle.float.specs.Laws.Nan.{lt-number}
 use Rattle.float.specs.Laws.Compare.{lt-le, not-lt-le}
-use Rattle.rounding.specs.Signed.{Exact, signed, signed-le, nat, _⊕_, _⊖_, _≼_, _≺_, _≈_}
-use Rattle.rounding.specs.Value.{U, U-pos, U-is, E, sgn, mag, val, Num, Digits, digits, digits-at, digits-whole}
-use Rattle.rounding.specs.Rounded.{B}
+use Rattle.rounding.specs.Signed.{Exact, signed, signed-le, _⊕_, _⊖_, _≼_, _≺_, _≈_}
+use Rattle.rounding.specs.Value.{U, sgn, mag, val, Num, Digits, digits, digits-at, digits-whole}
 use Rattle.rounding.specs.Comparison.{lt→≺, ¬lt→≼}
 use Rattle.rounding.specs.Errors.{Rounding, Product, Quotient, sub-of-finite, add-of-finite, mul-of-finite, div-law}
-use Rattle.rounding.specs.Bounds.{Sized, wider, add-sized, sub-sized, mul-sized, ranged}
-use Rattle.rounding.specs.Exactness.{Multiple, Sum, sub-exact}
+use Rattle.rounding.specs.Bounds.{Sized, add-sized, sub-sized, mul-sized, ranged}
+use Rattle.rounding.specs.Exactness.{Sum, sub-exact}
 use Rattle.regions.specs.Sizes.{sized-number}
 use Rattle.format.specs.Exact.{Coordinate, coordinate-sized}
 use Rattle.claims.specs.Straddle.{straddles, crossing}

@@ -3,11 +3,14 @@ pub mod Counts
 pub mod Crossing
 pub mod Fair
 pub mod FairExamples
+pub mod Halved
 pub mod HandOut
+pub mod Middle
 pub mod Relaxed
 pub mod Straddle
 pub mod Thrown
 pub mod Unshared
 pub mod Walk
 pub mod Whole
+pub mod Widened
 pub mod Within

@@ -1,6 +1,6 @@
 -- A place inside a ring has, on its height, an edge whose computed crossing lies right of it, and one whose computed crossing does not.
 -- Rests on the edges that straddle a height being even in number around a ring.
-use mathlib.Core.Path.{_≡_, refl, sym, ap, _∙_}
+use mathlib.Core.Path.{_≡_, refl, ap, _∙_}
 use mathlib.Core.Logic.{_⊎_, inl, inr}
 use mathlib.Core.Bool.{Bool, true, false, not, cond, _&&_, Bool·beq}
 use Prim.Native.Nat.{ℕ, zero, suc, _-_, _≤_, _<_}

@@ -3,7 +3,7 @@
 use mathlib.Core.Path.{_≡_, refl}
 use mathlib.Core.Bool.{Bool, true, false, not, _&&_}
 use mathlib.Core.List.{List, [], _∷_}
-use Prim.Native.Nat.{ℕ, zero, suc, _+_, _-_, _*_, _≤_, _<_}
+use Prim.Native.Nat.{ℕ, zero, suc, _+_, _*_, _<_}
 use native.Mathlib.Omega.{arith}
 use lib.Dec.{T, T-not}
 use lib.ListN.{length, getD}
@@ -21,7 +21,7 @@ use Rattle.regions.specs.Early.{outside}
 use Rattle.regions.specs.Sizes.{sized-number}
 use Rattle.format.specs.Exact.{Coordinate}
 use Rattle.format.specs.Known.{All, RingKnown, PieceKnown}
-use Rattle.claims.specs.Straddle.{Edge, Between, inside-between, crossing}
+use Rattle.claims.specs.Straddle.{Edge, inside-between}
 use Rattle.claims.specs.Crossing.{Crossed, crossed, spans}
 
 -- ---- a ring's vertices
