@@ -51,7 +51,7 @@ module _ (numbers : Spreading) (piece : Piece) (n attempts : ℕ) (ctx : PackCtx
       let thrown = throws piece n attempts ctx near min-x max-x min-y max-y rng .placed in
       let spread = relaxScatter numbers thrown piece near (spacing ctx) (inset ctx) in
       let strict = ctx .mode .«strict_obstacles» in
-      let size = m .least .length .sized in
+      let size = m .length .sized in
       rw e
       (kept-by piece (inset ctx) near Apart' (Apart (spacing ctx)) strict spread (λ p q a b h. h (m .sited p a) (m .sited q b))
       (relaxed numbers piece near (spacing ctx) (inset ctx) strict Apart' (λ p q h b a. apart-sym (spacing ctx) p q (h a b))

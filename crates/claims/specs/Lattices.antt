@@ -4,6 +4,7 @@ use mathlib.Core.Path.{_≡_, refl}
 use mathlib.Core.Bool.{Bool, true, false, not, cond, _&&_, _||_}
 use mathlib.Core.List.{List, [], _∷_, _++_, map, foldr}
 use Prim.Native.Nat.{ℕ, _≤_}
+use native.Mathlib.Omega.{arith}
 use lib.Dec.{T, leb, ltb}
 use lib.IntN.{ℤ}
 use lib.ListN.{length, take}
@@ -14,7 +15,6 @@ use Rattle.float.specs.Ops.{_+ᶠ_, _-ᶠ_, _*ᶠ_, _/ᶠ_, _≤ᶠ_, 0ᶠ}
 use Rattle.float.specs.Order.{sqrt, max}
 use Rattle.float.specs.Whole.{floor, ceil, as-i64}
 use Rattle.rounding.specs.Bounds.{Sized}
-use Rattle.rounding.specs.Distance.{spaced-less}
 use Rattle.glyphs.specs.declared.mode.PackMode.{PackMode}
 use Rattle.glyphs.specs.declared.rect.Point.{Point}
 use Rattle.glyphs.specs.declared.rect.Rectangle.{Rectangle}
@@ -28,10 +28,11 @@ use Rattle.lattice.specs.declared.context.Lattice.{Lattice}
 use Rattle.lattice.specs.Context.{inset, spacing}
 use Rattle.lattice.specs.Escape.{point}
 use Rattle.lattice.specs.Lattice.{HexCells, noCells, Cap, never, at, i64-as-f64, through, hexEnumCap, rowHeight, rowOffset, rowCells, allCells, judge, cellsWithin, latticeValidCells, takeCells}
-use Rattle.lattice.specs.Uniform.{available, cellsAt, fitsAt, widen, spreadCells, packLattice}
+use Rattle.lattice.specs.Uniform.{available, cellsAt, spreadCells, packLattice}
 use Rattle.claims.specs.Claim.{Apart}
 use Rattle.claims.specs.Kept.{Unblocked, Fits, Kept, honor-kept, kept-by, apart-sym}
-use Rattle.claims.specs.Measures.{Wide, BoxSized, Measures}
+use Rattle.claims.specs.Measures.{BoxSized, Measures}
+use Rattle.claims.specs.Widened.{Widened, widened, apart-less}
 use Rattle.claims.specs.Whole.{every-through}
 use Rattle.claims.specs.Apart.{walk-apart}
 use Rattle.claims.specs.Walk.{Sound, no-cells, walked, taken-inset, taken-apart, taken-clear}
@@ -57,22 +58,14 @@ module _ (lat : Lattice) (anchor : Point) (min-x max-x min-y max-y : Float) wher
       go [] = tt
       go (j ∷ js) = every-append Fits (rowCells lat anchor min-x max-x j) _ (row-fits j) (go js)
 
--- ---- what the packer starts from
-
--- s_max.max(spacing) of a box
-abbrev pub widest : Float → Bounds → Float
-widest least Nothing = least
-widest least (Box min-x max-x min-y max-y) = max (sqrt ((max-x -ᶠ min-x) *ᶠ (max-x -ᶠ min-x) +ᶠ (max-y -ᶠ min-y) *ᶠ (max-y -ᶠ min-y))) least
-
+-- ---- the spots of a piece
 module _
     (piece : Piece) (n : ℕ) (ctx : PackCtx) (rectangular : Bool) (near : List Rectangle) (anchor : Point)
-    (AX : Sized (anchor .x) 65536) (AY : Sized (anchor .y) 65536) (m : Measures piece ctx)
-    (most : Wide (spacing ctx) (widest (spacing ctx) (ringBounds (outer piece))))
-    (between : (honoring : Bool) (s-max : Float) (turns : ℕ) (lo hi : Float) → Wide (spacing ctx) lo → Wide (spacing ctx) hi → Wide (spacing ctx) (widen piece n ctx rectangular near anchor honoring s-max turns lo hi)) where
+    (AX : Sized (anchor .x) 65536) (AY : Sized (anchor .y) 65536) (m : Measures piece ctx) where
   abbrev cells : Float → Cap → HexCells
   cells s cap = cellsAt piece n ctx rectangular near anchor s cap
 
-  sound-within : (b : Bounds) → BoxSized b → (s : Float) (cap : Cap) → Wide (spacing ctx) s → Sound piece (inset ctx) near (Apart s) (cellsWithin b piece anchor (record { spacing = s; rectangular = rectangular }) (inset ctx) near cap)
+  sound-within : (b : Bounds) → BoxSized b → (s : Float) (cap : Cap) → Widened (spacing ctx) s → Sound piece (inset ctx) near (Apart s) (cellsWithin b piece anchor (record { spacing = s; rectangular = rectangular }) (inset ctx) near cap)
   unfolding cellsWithin
   sound-within Nothing z s cap w = no-cells piece (inset ctx) near (Apart s)
   sound-within (Box min-x max-x min-y max-y) z s cap w = go (s ≤ᶠ 0ᶠ || not (isFinite s))
@@ -88,9 +81,9 @@ module _
       go false =
           walked piece (inset ctx) near cap (Apart s) (apart-sym s) (take hexEnumCap all) (every-take Fits hexEnumCap all (walk-fits lat anchor min-x max-x min-y max-y))
           (pairwise-take (Apart s) hexEnumCap all
-          (walk-apart s rectangular anchor min-x max-x min-y max-y (w .length) (w .short) AX AY (z .left) (z .right) (z .bottom) (z .top)))
+          (walk-apart s rectangular anchor min-x max-x min-y max-y (w .length) (w .few) AX AY (z .left) (z .right) (z .bottom) (z .top)))
 
-  sound-at : (s : Float) (cap : Cap) → Wide (spacing ctx) s → Sound piece (inset ctx) near (Apart s) (cells s cap)
+  sound-at : (s : Float) (cap : Cap) → Widened (spacing ctx) s → Sound piece (inset ctx) near (Apart s) (cells s cap)
   unfolding latticeValidCells
   sound-at s cap w = sound-within (ringBounds (outer piece)) (m .box) s cap w
 
@@ -98,11 +91,11 @@ module _
   KeptHere honor placed = Kept piece (inset ctx) near (Apart (spacing ctx)) honor placed
 
   -- the cells taken at a spacing
-  taken : (s : Float) (cap : Cap) → Wide (spacing ctx) s → (honoring : Bool) → KeptHere honoring (takeCells (cells s cap) n anchor honoring)
+  taken : (s : Float) (cap : Cap) → Widened (spacing ctx) s → (honoring : Bool) → KeptHere honoring (takeCells (cells s cap) n anchor honoring)
   taken s cap w honoring =
       let c = sound-at s cap w in
       kept-by piece (inset ctx) near (Apart s) (Apart (spacing ctx)) honoring (takeCells (cells s cap) n anchor honoring)
-      (λ p q a b h. spaced-less s (p .x) (p .y) (q .x) (q .y) (spacing ctx) (w .wide) h)
+      (λ p q a b h. apart-less (spacing ctx) s p q (w .least) h)
       (record {
         insets = taken-inset piece (inset ctx) near (Apart s) (apart-sym s) (cells s cap) c n anchor honoring;
         unblocked = clear honoring;
@@ -113,21 +106,17 @@ module _
       clear true t = taken-clear piece (inset ctx) near (Apart s) (apart-sym s) (cells s cap) (sound-at s cap w) n anchor
       clear false t = absurd t
 
+  least : Widened (spacing ctx) (spacing ctx)
+  least = record { length = m .length; few = m .short; least = omega arith }
+
   -- the spacing widened, whatever the box
-  spread : (b : Bounds) → Wide (spacing ctx) (widest (spacing ctx) b) → (honoring : Bool) → KeptHere honoring (spreadCells piece n ctx rectangular near anchor b (cells (spacing ctx) (at n)) honoring)
+  spread : (b : Bounds) → BoxSized b → (honoring : Bool) → KeptHere honoring (spreadCells piece n ctx rectangular near anchor b (cells (spacing ctx) (at n)) honoring)
   unfolding spreadCells
-  spread Nothing h honoring = taken (spacing ctx) (at n) (m .least) honoring
-  spread (Box min-x max-x min-y max-y) h honoring =
-      let s-max = sqrt ((max-x -ᶠ min-x) *ᶠ (max-x -ᶠ min-x) +ᶠ (max-y -ᶠ min-y) *ᶠ (max-y -ᶠ min-y)) in
-      let hi = max s-max (spacing ctx) in
-      let lo = widen piece n ctx rectangular near anchor honoring s-max 24 (spacing ctx) hi in
-      taken (cond (fitsAt piece n ctx rectangular near anchor honoring hi) hi lo) never
-      (either (fitsAt piece n ctx rectangular near anchor honoring hi) hi lo h (between honoring s-max 24 (spacing ctx) hi (m .least) h))
+  spread Nothing z honoring = taken (spacing ctx) (at n) least honoring
+  spread (Box min-x max-x min-y max-y) z honoring =
+      taken _ never
+      (widened piece n ctx rectangular near anchor honoring min-x max-x min-y max-y (z .left) (z .right) (z .bottom) (z .top) (spacing ctx) (m .length) (m .short))
       honoring
-    where
-      either : (t : Bool) (s s' : Float) → Wide (spacing ctx) s → Wide (spacing ctx) s' → Wide (spacing ctx) (cond t s s')
-      either true s s' w w' = w
-      either false s s' w w' = w'
 
   -- short of room at the least spacing, Strict takes free cells only; otherwise honouring is what was possible there
   pub lattice-kept : ctx .mode .spread ≡ true → KeptHere (ctx .mode .«strict_obstacles») (packLattice piece n ctx rectangular near anchor)
@@ -141,13 +130,13 @@ module _
       at-min = cells (spacing ctx) (at n)
 
       chosen : (b h : Bool) → KeptHere h (cond b (takeCells at-min n anchor h) (spreadCells piece n ctx rectangular near anchor (ringBounds (outer piece)) at-min h))
-      chosen true h = taken (spacing ctx) (at n) (m .least) h
-      chosen false h = spread (ringBounds (outer piece)) most h
+      chosen true h = taken (spacing ctx) (at n) least h
+      chosen false h = spread (ringBounds (outer piece)) (m .box) h
 
       go : (h strict b : Bool)
           → KeptHere strict (cond (not h && strict) (takeCells at-min n anchor true) (cond b (takeCells at-min n anchor h) (spreadCells piece n ctx rectangular near anchor (ringBounds (outer piece)) at-min h)))
       go true strict b = honor-kept strict (chosen b true)
-      go false true b = taken (spacing ctx) (at n) (m .least) true
+      go false true b = taken (spacing ctx) (at n) least true
       go false false b = chosen b false
 
   spread-count : (b : Bounds) (at-min : HexCells) (honoring : Bool) → length (spreadCells piece n ctx rectangular near anchor b at-min honoring) ≤ n

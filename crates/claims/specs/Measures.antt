@@ -15,12 +15,6 @@ use Rattle.lattice.specs.declared.context.PackCtx.{PackCtx}
 use Rattle.lattice.specs.Context.{inset, spacing}
 use Rattle.claims.specs.Kept.{Stands, Sited}
 
--- a spacing that a walk may have, not below the least
-pub record Wide (least s : Float) : Type 0 where
-  pub length : Length s
-  pub short : mag s ≤ 36864 * U
-  pub wide : mag least ≤ mag s
-
 pub record Within (min-x max-x min-y max-y : Float) : Type 0 where
   pub left : Sized min-x 1024
   pub right : Sized max-x 1024
@@ -33,6 +27,7 @@ BoxSized (Box min-x max-x min-y max-y) = Within min-x max-x min-y max-y
 
 pub record Measures (piece : Piece) (ctx : PackCtx) : Type 0 where
   pub box : BoxSized (ringBounds (outer piece))
-  pub least : Wide (spacing ctx) (spacing ctx)
+  pub length : Length (spacing ctx)
+  pub short : mag (spacing ctx) ≤ 36864 * U
   pub number : Number (inset ctx)
   pub sited : (p : Point) → Stands piece (inset ctx) p → Sited p

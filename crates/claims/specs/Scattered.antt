@@ -107,7 +107,7 @@ module _ (anchor : Anchor) (held : AnchorFits anchor) (piece : Piece) (n : ℕ) 
       let near = localTo piece obstacles (inset ctx) in
       kept-by piece (inset ctx) near (Tested piece n ctx near anchor min-x max-x min-y max-y held) (Apart (spacing ctx)) (ctx .mode .«strict_obstacles»)
       (passes piece n ctx near anchor min-x max-x min-y max-y)
-      (λ q p a b t. tested-apart piece n ctx near anchor min-x max-x min-y max-y held (m .least .length) z q p (m .sited q a) (m .sited p b) t)
+      (λ q p a b t. tested-apart piece n ctx near anchor min-x max-x min-y max-y held (m .length) z q p (m .sited q a) (m .sited p b) t)
       (scattered piece n ctx near anchor min-x max-x min-y max-y held)
 
   within-count : (b : Bounds) → length (packWithin b anchor piece n ctx obstacles) ≤ n
