@@ -1,6 +1,6 @@
 -- What the lattice packer places in a piece keeps what is claimed of it.
 -- Rests on `Walk` and `Apart`: the anchor and the box are within reach, and so is each spacing tried, none of which is below the least.
-use mathlib.Core.Path.{_≡_, refl}
+use mathlib.Core.Path.{_≡_, subst}
 use mathlib.Core.Bool.{Bool, true, false, not, cond, _&&_, _||_}
 use mathlib.Core.List.{List, [], _∷_, _++_, map, foldr}
 use Prim.Native.Nat.{ℕ, _≤_}
@@ -122,9 +122,9 @@ module _
   pub lattice-kept : ctx .mode .spread ≡ true → KeptHere (ctx .mode .«strict_obstacles») (packLattice piece n ctx rectangular near anchor)
   unfolding packLattice
   lattice-kept e =
-      rw e
-      (go (leb n (length (at-min .free))) (ctx .mode .«strict_obstacles»)
-      (ltb (available (leb n (length (at-min .free))) at-min) n || false))
+      go (leb n (length (at-min .free))) (ctx .mode .«strict_obstacles») (ltb (available (leb n (length (at-min .free))) at-min) n || not (ctx .mode .spread))
+      (ctx .mode .spread)
+      e
     where
       at-min : HexCells
       at-min = cells (spacing ctx) (at n)
@@ -133,11 +133,12 @@ module _
       chosen true h = taken (spacing ctx) (at n) least h
       chosen false h = spread (ringBounds (outer piece)) (m .box) h
 
-      go : (h strict b : Bool)
-          → KeptHere strict (cond (not h && strict) (takeCells at-min n anchor true) (cond b (takeCells at-min n anchor h) (spreadCells piece n ctx rectangular near anchor (ringBounds (outer piece)) at-min h)))
-      go true strict b = honor-kept strict (chosen b true)
-      go false true b = taken (spacing ctx) (at n) least true
-      go false false b = chosen b false
+      go : (h strict b sp : Bool) → sp ≡ true
+          → KeptHere strict (cond (not h && strict) (cond sp (takeCells at-min n anchor true) (at-min .free)) (cond b (takeCells at-min n anchor h) (spreadCells piece n ctx rectangular near anchor (ringBounds (outer piece)) at-min h)))
+      go true strict b sp e = honor-kept strict (chosen b true)
+      go false true b true e = taken (spacing ctx) (at n) least true
+      go false true b false e = absurd (subst (λ (z : Bool). T (not z)) e tt)
+      go false false b sp e = chosen b false
 
   spread-count : (b : Bounds) (at-min : HexCells) (honoring : Bool) → length (spreadCells piece n ctx rectangular near anchor b at-min honoring) ≤ n
   unfolding spreadCells
@@ -147,14 +148,17 @@ module _
   pub lattice-count : ctx .mode .spread ≡ true → length (packLattice piece n ctx rectangular near anchor) ≤ n
   unfolding packLattice
   lattice-count e =
-      rw e
-      (go (not (leb n (length (at-min .free))) && ctx .mode .«strict_obstacles») (ltb (available (leb n (length (at-min .free))) at-min) n || false)
-      (leb n (length (at-min .free))))
+      go (not (leb n (length (at-min .free))) && ctx .mode .«strict_obstacles») (ltb (available (leb n (length (at-min .free))) at-min) n || not (ctx .mode .spread))
+      (leb n (length (at-min .free)))
+      (ctx .mode .spread)
+      e
     where
       at-min : HexCells
       at-min = cells (spacing ctx) (at n)
 
-      go : (s b h : Bool) → length (cond s (takeCells at-min n anchor true) (cond b (takeCells at-min n anchor h) (spreadCells piece n ctx rectangular near anchor (ringBounds (outer piece)) at-min h))) ≤ n
-      go true b h = taken-count at-min n anchor true
-      go false true h = taken-count at-min n anchor h
-      go false false h = spread-count (ringBounds (outer piece)) at-min h
+      go : (s b h sp : Bool) → sp ≡ true
+          → length (cond s (cond sp (takeCells at-min n anchor true) (at-min .free)) (cond b (takeCells at-min n anchor h) (spreadCells piece n ctx rectangular near anchor (ringBounds (outer piece)) at-min h))) ≤ n
+      go true b h true e = taken-count at-min n anchor true
+      go true b h false e = absurd (subst (λ (z : Bool). T (not z)) e tt)
+      go false true h sp e = taken-count at-min n anchor h
+      go false false h sp e = spread-count (ringBounds (outer piece)) at-min h

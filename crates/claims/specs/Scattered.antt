@@ -80,12 +80,12 @@ module _ (piece : Piece) (n : ℕ) (ctx : PackCtx) (near : List Rectangle) (anch
   unfolding apart cellNumber
   tested-apart q p a b t =
       apart-sym (spacing ctx) p q
-      (rw (cell-size (spacing ctx) l) at
       (go (beside (cellNumber min-x (spacing ctx) (p .x)) (cellNumber min-x (spacing ctx) (q .x))) (beside (cellNumber min-y (spacing ctx) (p .y)) (cellNumber min-y (spacing ctx) (q .y)))
       (squaredDistance p q ≥ᶠ spacing ctx *ᶠ spacing ctx)
       (λ u. cells-across (spacing ctx) (p .x) (p .y) (q .x) (q .y) l (b .across) (b .along) (a .across) (a .along) min-x (wider (omega arith) (z .left)) (not-beside _ _ u))
       (λ u. cells-along (spacing ctx) (p .x) (p .y) (q .x) (q .y) l (b .across) (b .along) (a .across) (a .along) min-y (wider (omega arith) (z .bottom)) (not-beside _ _ u))
-      (λ u. computed-apart (spacing ctx) (l .sized) p q b a u)))
+      (λ u. computed-apart (spacing ctx) (l .sized) p q b a u)
+      (rw (cell-size (spacing ctx) l) at t))
     where
       go : (x y d : Bool) → (T (not x) → Apart (spacing ctx) p q) → (T (not y) → Apart (spacing ctx) p q) → (T d → Apart (spacing ctx) p q) → T (not (x && y) || d) → Apart (spacing ctx) p q
       go true true d f g h t = h t
