@@ -13,6 +13,7 @@ pub mod Measures
 pub mod Middle
 pub mod Relaxed
 pub mod Scattered
+pub mod Starts
 pub mod Straddle
 pub mod Thrown
 pub mod Unshared
