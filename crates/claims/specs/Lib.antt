@@ -6,6 +6,7 @@ pub mod FairExamples
 pub mod Halved
 pub mod HandOut
 pub mod Middle
+pub mod Radii
 pub mod Relaxed
 pub mod Straddle
 pub mod Thrown
