@@ -1,4 +1,5 @@
 pub mod Apart
+pub mod Chosen
 pub mod Counts
 pub mod Crossing
 pub mod Fair

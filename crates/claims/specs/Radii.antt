@@ -1,10 +1,10 @@
--- The radius under a ceiling of 2 ^ -10 at least is 2 ^ -21 at least, and the ceiling at most; with what a stated radius is, the radius of every job that is accepted.
+-- The radius under a ceiling of 2 ^ -10 at least is 2 ^ -21 at least, and the ceiling at most.
 -- Rests on the search's least success: a 1,024th of the ceiling, and half of it where there are obstacles.
-use mathlib.Core.Path.{_≡_, refl, sym, ap, _∙_}
+use mathlib.Core.Path.{_≡_, refl, sym, ap}
 use mathlib.Core.Logic.{inl, inr}
 use mathlib.Core.Bool.{Bool, true, false, cond}
 use mathlib.Core.List.{List, []}
-use Prim.Native.Nat.{ℕ, _+_, _*_, _^_, _≤_, _<_}
+use Prim.Native.Nat.{ℕ, _*_, _^_, _≤_, _<_}
 use native.Mathlib.Nat.{le-trans, le-of-eq, mul-le-mul-left, mul-le-mul-right}
 use native.Mathlib.Omega.{arith}
 use lib.Dec.{lit<, lit≤, eqb}
@@ -110,7 +110,7 @@ module _ (r-hi : Float) (c : Ceiling r-hi) where
   walled (some r) b k S g h = let u = usable r k S g in greater r b k (u .sized) (u .nonneg) h
 
 -- THE RADIUS UNDER A CEILING
-either : (P : Float → Type 0) (b : Bool) (x y : Placements) → P (x .radius) → P (y .radius) → P (cond b x y .radius)
+pub either : (P : Float → Type 0) (b : Bool) (x y : Placements) → P (x .radius) → P (y .radius) → P (cond b x y .radius)
 either P true x y p q = p
 either P false x y p q = q
 
