@@ -1,4 +1,5 @@
 pub mod Apart
+pub mod Chosen
 pub mod Claim
 pub mod Counts
 pub mod Crossing
@@ -11,6 +12,7 @@ pub mod Kept
 pub mod Lattices
 pub mod Measures
 pub mod Middle
+pub mod Radii
 pub mod Relaxed
 pub mod Scattered
 pub mod Starts
