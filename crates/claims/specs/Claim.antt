@@ -1,7 +1,7 @@
 -- Demand 3 in its own words: what is claimed of the spots of a piece, of a zone left in, and of a job's whole sheet. Definitions only.
 -- An exact number is a whole number of 2 ^ -1074 (`mag`), so that no step of a comparison rounds.
 use mathlib.Core.Path.{_≡_}
-use mathlib.Core.List.{List, [], _∷_, flatten}
+use mathlib.Core.List.{List, [], _∷_, map, flatten}
 use Prim.Native.Nat.{ℕ, _≤_, _<_}
 use lib.Dec.{T}
 use lib.ListN.{length, getD}
@@ -16,7 +16,7 @@ use Rattle.glyphs.specs.declared.options.ObstaclePolicy.the-variants.{BestEffor
 use Rattle.glyphs.specs.declared.rect.Point.{Point}
 use Rattle.glyphs.specs.declared.rect.Rectangle.{Rectangle}
 use Rattle.glyphs.specs.Apportion.{assigned}
-use Rattle.glyphs.specs.Rect.{distToRect}
+use Rattle.glyphs.specs.Rect.{distToRect, rectangles, sanitizeObstacles}
 use Rattle.glyphs.specs.Spots.{flat}
 use Rattle.regions.specs.Ring.{Piece}
 use Rattle.regions.specs.Clearance.{signedClearance}
@@ -26,8 +26,10 @@ use Rattle.lattice.specs.Uniform.{localTo}
 use Rattle.discs.specs.declared.options.GlyphOptions.{GlyphOptions}
 use Rattle.discs.specs.Region.{Zone, areas, quotas}
 use Rattle.discs.specs.Radius.{contextAt}
-use Rattle.discs.specs.PlaceGlyphs.{Placed, pack}
-use Rattle.sheet.specs.Sheet.{Placement}
+use Rattle.discs.specs.PlaceGlyphs.{Placed, workOf, pack}
+use Rattle.sheet.specs.Sheet.{Placement, readSheet}
+use Rattle.job.specs.Job.{Job, jobOf}
+use Rattle.job.specs.Plan.{placementsOf}
 use Rattle.claims.specs.Fair.{Fair}
 
 -- ---- a spot
@@ -95,3 +97,18 @@ module _ (options : GlyphOptions) (pillars : List Rectangle) (radius : Float) wh
   Zones [] (entry ∷ entries) = ⊥
   Zones (zone ∷ zones) [] = ⊥
   Zones (zone ∷ zones) (entry ∷ entries) = ZoneKept zone entry × Zones zones entries
+
+-- ---- THE WHOLE: a job's bytes, and bytes that begin with its sheet
+
+-- an obstacle of the job that is not dropped
+abbrev pub pillarsOf : Job → List Rectangle
+pillarsOf job = sanitizeObstacles (rectangles (job .obstacles))
+
+-- where the packer's definition, run on the job, places its spots: for each zone left in, those of each piece
+abbrev pub placedOf : Job → List Placed
+placedOf job = placementsOf job .zones
+
+pub record SheetKept (s bytes : List ℕ) : Type 0 where
+  -- these are the zones left in, in job order
+  pub left-in : map (λ (placed : Placed). placed .zone) (placedOf (jobOf s)) ≡ workOf (jobOf s .zones)
+  pub zones : Zones (jobOf s .options) (pillarsOf (jobOf s)) (readSheet bytes .radius) (placedOf (jobOf s)) (readSheet bytes .zones)
