@@ -7,6 +7,7 @@ pub mod Crossing
 pub mod Darts
 pub mod Demand
 pub mod Entries
+pub mod Example
 pub mod Fair
 pub mod FairExamples
 pub mod Halved
