@@ -23,7 +23,7 @@ use Rattle.glyphs.specs.declared.bounds.Bounds.the-variants.{Box}
 use Rattle.glyphs.specs.Apportion.{total, noWeight, share, wholeShare, remainder, base, rems, assigned, byRemainder, order, handOut, apportion}
 use Rattle.glyphs.specs.Halton.{radicalInverse, digits}
 use Rattle.glyphs.specs.Bounds.{extent, extentsOf, boxOf, ringBounds}
-use Rattle.glyphs.specs.Rect.{distToRect, clearOfObstacles, filter, near, obstaclesNear}
+use Rattle.glyphs.specs.Rect.{rectAt, rectsFrom, rectangles, distToRect, clearOfObstacles, isFinite, sane, filter, sanitizeObstacles, near, obstaclesNear}
 use Rattle.regions.specs.Ring.{Piece, next, prev, outer, holes}
 use Rattle.regions.specs.Inside.{pointInPolygon, insideAfter, intersect, flip}
 use Rattle.regions.specs.Clearance.{along, edgeSquare, closer, bestAfter, bestOfRing, minDistToRings, inAny, within, signedClearance}
@@ -32,19 +32,23 @@ use Rattle.lattice.specs.declared.context.PackCtx.{PackCtx}
 use Rattle.lattice.specs.Context.{inset, spacing}
 use Rattle.lattice.specs.Escape.{point}
 use Rattle.lattice.specs.Uniform.{localTo}
-use Rattle.scatter.specs.LowDiscrepancy.{none, candidate, cellNumber, apart, admits, pass}
+use Rattle.deepest.specs.declared.search.Deepest.{Deepest}
+use Rattle.deepest.specs.declared.search.Deepest.the-variants.{Found, Nothing, Full}
+use Rattle.scatter.specs.LowDiscrepancy.{none, candidate, cellNumber, apart, admits, pass, passes, packWithin, packScatter, loneAnchor}
 use Rattle.discs.specs.declared.options.GlyphOptions.{GlyphOptions}
 use Rattle.discs.specs.declared.options.Radius.the-variants.{Stated}
 use Rattle.discs.specs.declared.options.BoundaryGap.the-variants.{Follows}
-use Rattle.discs.specs.Region.{Zone, quotas}
+use Rattle.discs.specs.Region.{Zone, quotas, deepestOf, packLowDiscrepancyPiece, packPiece, packPieces, packRegion}
 use Rattle.discs.specs.Radius.{contextAt}
-use Rattle.discs.specs.PlaceGlyphs.{pack}
+use Rattle.discs.specs.PlaceGlyphs.{leftIn, workOf, pack, packAt, placeWork, placeGlyphs}
 use Rattle.format.specs.Rows.{_unless_, _orElse_, faults, past, each}
 use Rattle.format.specs.Numbers.{uint, item, inRange, coordIn, coordAt, coordOf, share as part}
 use Rattle.format.specs.Pieces.{ring, ringFault, ringEnd, piece, pieceFault, pieceEnd}
 use Rattle.job.specs.Head.{lentFault, numberAfter, choicesFault, measuresFault, headFault, arrangementOf, policyOf, radiusOf, boundaryOf, optionsOf, obstacles, obstaclesFault, obstaclesEnd}
 use Rattle.job.specs.Zones.{zone, letter, letterFault, above, keyAt, keyFault, countsFault, countAt, zoneEnd, openingFault, zoneFault, zoneNext}
 use Rattle.job.specs.Job.{Job, jobOf, zones, zonesEnd, zonesFault, itemsFault}
+use Rattle.job.specs.Plan.{room, source, placementsOf}
+use Rattle.claims.specs.Claim.{pillarsOf, placedOf}
 
 -- LowDiscrepancy, Strict, radius 1, gap 0 followed, precision 1, no attempts, seed 0; a pillar of 2 by 2 at (6, 4); zone `A`, count 2, the square (0, 0) to (12, 12)
 job : List ℕ
@@ -131,3 +135,26 @@ kept-near = refl
 passed : (left : ℕ) → pass corner 2 ctx (pillar ∷ []) none 0ᶠ 12ᶠ 0ᶠ 12ᶠ true (suc (suc (suc (suc left)))) 0 [] ≡ one ∷ other ∷ []
 unfolding pass candidate admits apart cellNumber radicalInverse digits all signedClearance minDistToRings bestOfRing bestAfter closer edgeSquare along clamp within inAny pointInPolygon insideAfter intersect flip clearOfObstacles distToRect hypot max abs floor rootOf nearestRoot floorRoot inset spacing next prev outer holes Ieee.isNan Ieee.le Ieee.eq Ieee.lt Ieee.toSigned Ieee.toUnsigned Ieee.neg Ieee.ofBits Ieee.ofFields Ieee.odd Ieee.climb Ieee.span Ieee.size Ieee.units Ieee.round Ieee.sum Ieee.add Ieee.sub Ieee.mul Ieee.div Ieee.ofInt
 passed left = refl
+
+scattered : packScatter none corner 2 ctx (pillar ∷ []) ≡ one ∷ other ∷ []
+unfolding packScatter packWithin passes
+scattered = rw (bounded, kept-near) (passed 1020)
+
+-- no lone mark, so no deepest point is asked for
+laid : (deepest : Deepest) → packLowDiscrepancyPiece deepest corner 2 ctx (pillar ∷ []) ≡ one ∷ other ∷ []
+unfolding packLowDiscrepancyPiece loneAnchor
+laid Nothing = scattered
+laid Full = scattered
+laid (Found x y clearance) = scattered
+
+packed : packRegion room source options ctx (pillar ∷ []) square ≡ (one ∷ other ∷ []) ∷ []
+unfolding packRegion packPieces packPiece
+packed = rw (shared, laid (deepestOf room options corner))
+
+pillars : pillarsOf said ≡ pillar ∷ []
+unfolding rectangles rectsFrom rectAt sanitizeObstacles filter sane isFinite abs Ieee.lt Ieee.ofBits Ieee.ofFields Ieee.odd
+pillars = refl
+
+placed : placedOf said ≡ record { zone = square; spots = (one ∷ other ∷ []) ∷ [] } ∷ []
+unfolding placementsOf placeGlyphs placeWork packAt workOf leftIn isFinite abs Ieee.lt Ieee.ofBits Ieee.ofFields Ieee.odd
+placed = rw (pillars, packed)
