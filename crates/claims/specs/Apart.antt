@@ -23,7 +23,7 @@ use Rattle.glyphs.specs.declared.rect.Point.{Point}
 use Rattle.lattice.specs.declared.context.Lattice.{Lattice}
 use Rattle.lattice.specs.Escape.{point}
 use Rattle.lattice.specs.Lattice.{remEuclid2, i64-as-f64, through, rowHeight, isShifted, rowOffset, rowCells, allCells}
-use Rattle.claims.specs.Claim.{Apart}
+use Rattle.claims.specs.Kept.{Apart}
 use Rattle.claims.specs.Whole.{every-through, pairwise-through}
 
 same-remainder : (j : ℤ) → remEuclid j 2 ≡ remEuclid2 j

@@ -2,14 +2,14 @@
 -- An exact number is a whole number of 2 ^ -1074 (`mag`), so that no step of a comparison rounds.
 use mathlib.Core.Path.{_≡_}
 use mathlib.Core.List.{List, [], _∷_, map, flatten}
-use Prim.Native.Nat.{ℕ, _≤_, _<_}
+use Prim.Native.Nat.{ℕ, _-_, _*_, _≤_, _<_}
 use lib.Dec.{T}
 use lib.ListN.{length, getD}
 use lib.Ieee.{Float, nan}
 use Rattle.laws.specs.Every.{Every, Pairwise}
 use Rattle.float.specs.Ops.{_>ᶠ_, _≥ᶠ_, 0ᶠ}
 use Rattle.rounding.specs.Value.{mag, Num}
-use Rattle.rounding.specs.Distance.{Spaced}
+use Rattle.rounding.specs.Distance.{Length, tiny, distance²}
 use Rattle.rounding.specs.Shares.{Weights, sum}
 use Rattle.glyphs.specs.declared.options.ObstaclePolicy.{ObstaclePolicy}
 use Rattle.glyphs.specs.declared.options.ObstaclePolicy.the-variants.{BestEffort, Strict}
@@ -47,18 +47,20 @@ Inset piece inset p = T (signedClearance (p .x) (p .y) piece ≥ᶠ inset)
 abbrev pub Away : Float → Point → Rectangle → Type 0
 Away inset p pillar = T (distToRect (p .x) (p .y) pillar ≥ᶠ inset)
 
--- the exact distance of two is at least s less 2 ^ -30, compared by squares; where that is not above 0 every pair passes
-abbrev pub Apart : Float → Point → Point → Type 0
-Apart s p q = Spaced s (p .x) (p .y) (q .x) (q .y)
+-- the exact distance of two is at least s less 2 ^ -30, compared by squares; where s is not above 2 ^ -30 the difference is 0 and every pair passes
+abbrev pub FarApart : Float → Point → Point → Type 0
+FarApart s p q = (mag s - tiny) * (mag s - tiny) ≤ distance² (p .x) (p .y) (q .x) (q .y)
 
 -- ---- the spots of one piece; two entries of the list are two spots, even at equal x and y
 
 pub record PieceKept (ctx : PackCtx) (policy : ObstaclePolicy) (pillars : List Rectangle) (piece : Piece) (quota : ℕ) (spots : List Point) : Type 0 where
   pub exact : Every Exact spots
+  -- the computed spacing is a number, from 2 ^ -20 to 65,536
+  pub known : Length (spacing ctx)
   -- each spot's computed signed clearance in its own piece is at least the inset
   pub insets : Every (Inset piece (inset ctx)) spots
   -- any two are, in exact distance, at least the computed spacing less 2 ^ -30 apart
-  pub spaced : Pairwise (Apart (spacing ctx)) spots
+  pub spaced : Pairwise (FarApart (spacing ctx)) spots
   -- under Strict every spot is, as computed, at least the inset away from every pillar that the near rule keeps for its piece
   pub clear : policy ≡ Strict → Every (λ (p : Point). Every (Away (inset ctx) p) (localTo piece pillars (inset ctx))) spots
   -- no more spots than the quota
@@ -111,4 +113,6 @@ placedOf job = placementsOf job .zones
 pub record SheetKept (s bytes : List ℕ) : Type 0 where
   -- these are the zones left in, in job order
   pub left-in : map (λ (placed : Placed). placed .zone) (placedOf (jobOf s)) ≡ workOf (jobOf s .zones)
+  -- r is the radius that it finds
+  pub radius : readSheet bytes .radius ≡ placementsOf (jobOf s) .radius
   pub zones : Zones (jobOf s .options) (pillarsOf (jobOf s)) (readSheet bytes .radius) (placedOf (jobOf s)) (readSheet bytes .zones)

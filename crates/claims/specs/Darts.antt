@@ -26,8 +26,7 @@ use Rattle.lattice.specs.Context.{inset, spacing}
 use Rattle.lattice.specs.Escape.{squaredDistance}
 use Rattle.lattice.specs.Uniform.{localTo}
 use Rattle.scatter.specs.Random.{Thrown, throws, throwWithin, packRandomPiece}
-use Rattle.claims.specs.Claim.{Apart}
-use Rattle.claims.specs.Kept.{Kept, none-kept, kept-by, Sited, apart-sym, computed-apart}
+use Rattle.claims.specs.Kept.{Kept, none-kept, kept-by, Sited, Apart, apart-sym, computed-apart}
 use Rattle.claims.specs.Measures.{Measures}
 use Rattle.claims.specs.Thrown.{Distant, darts}
 use Rattle.claims.specs.Relaxed.{relaxed}

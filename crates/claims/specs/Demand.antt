@@ -116,7 +116,7 @@ module _ (ceiling-sized : (job : Job) → JobKnown job → (r-hi : Float) → ce
         few = rw (length-map (p .zones) placementOf) (omega (arith, few));
         zones = all-writable (job .options) (pillarsOf job) (p .radius) (p .zones) inside (h .own);
       } in
-      record { left-in = h .same; zones = rw (sheet-back (sheetFor p) ys w) (zones-kept (job .options) (pillarsOf job) (p .radius) (p .zones) inside (h .own)) }
+      record { left-in = h .same; radius = rw (sheet-back (sheetFor p) ys w); zones = rw (sheet-back (sheetFor p) ys w) (zones-kept (job .options) (pillarsOf job) (p .radius) (p .zones) inside (h .own)) }
 
   -- THE CLAIM: whatever bytes and slices are lent, where the call gives a sheet
   pub demand-3 : (s : List ℕ) (first second : List Float) (sheet : List ℕ) → planOf s first second sheet .number ≡ 0 → SheetKept s (planOf s first second sheet .sheet)

@@ -7,14 +7,14 @@ use lib.Ieee.{Float, binary64, fits}
 use Rattle.laws.specs.Every.{Every, Pairwise}
 use Rattle.float.specs.Ops.{_*ᶠ_, _≥ᶠ_}
 use Rattle.rounding.specs.Bounds.{Sized}
-use Rattle.rounding.specs.Distance.{spaced-sym}
+use Rattle.rounding.specs.Distance.{Spaced, spaced-sym}
 use Rattle.rounding.specs.Spacing.{spacing}
 use Rattle.glyphs.specs.declared.rect.Point.{Point}
 use Rattle.glyphs.specs.declared.rect.Rectangle.{Rectangle}
 use Rattle.glyphs.specs.Rect.{clearOfObstacles}
 use Rattle.regions.specs.Ring.{Piece}
 use Rattle.lattice.specs.Escape.{squaredDistance}
-use Rattle.claims.specs.Claim.{Inset, Apart}
+use Rattle.claims.specs.Claim.{Inset}
 
 -- the computed test of all obstacles
 abbrev pub Unblocked : List Rectangle → Float → Point → Type 0
@@ -68,6 +68,9 @@ kept-by piece clear near R S honor placed f k =
 pub record Sited (p : Point) : Type 0 where
   pub across : Sized (p .x) 65536
   pub along : Sized (p .y) 65536
+
+abbrev pub Apart : Float → Point → Point → Type 0
+Apart s p q = Spaced s (p .x) (p .y) (q .x) (q .y)
 
 pub apart-sym : (s : Float) (p q : Point) → Apart s p q → Apart s q p
 apart-sym s p q h = spaced-sym s (p .x) (p .y) (q .x) (q .y) h

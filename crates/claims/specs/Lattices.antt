@@ -29,8 +29,7 @@ use Rattle.lattice.specs.Context.{inset, spacing}
 use Rattle.lattice.specs.Escape.{point}
 use Rattle.lattice.specs.Lattice.{HexCells, noCells, Cap, never, at, i64-as-f64, through, hexEnumCap, rowHeight, rowOffset, rowCells, allCells, judge, cellsWithin, latticeValidCells, takeCells}
 use Rattle.lattice.specs.Uniform.{available, cellsAt, spreadCells, packLattice}
-use Rattle.claims.specs.Claim.{Apart}
-use Rattle.claims.specs.Kept.{Unblocked, Fits, Kept, honor-kept, kept-by, apart-sym}
+use Rattle.claims.specs.Kept.{Unblocked, Fits, Kept, honor-kept, kept-by, Apart, apart-sym}
 use Rattle.claims.specs.Measures.{BoxSized, Measures}
 use Rattle.claims.specs.Widened.{Widened, widened, apart-less}
 use Rattle.claims.specs.Whole.{every-through}

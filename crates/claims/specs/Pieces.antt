@@ -35,8 +35,8 @@ use Rattle.discs.specs.declared.options.GlyphOptions.{GlyphOptions}
 use Rattle.discs.specs.Region.{Zone, quotas, deepestOf, packUniformPiece, packLowDiscrepancyPiece, packPiece, packPieces, packRegion}
 use Rattle.discs.specs.PlaceGlyphs.{pack}
 use Rattle.format.specs.Known.{All, PieceKnown}
-use Rattle.claims.specs.Claim.{Exact, Inset, Away, Apart, PieceKept, context, OwnPieces}
-use Rattle.claims.specs.Kept.{Unblocked, Stands, Kept, none-kept}
+use Rattle.claims.specs.Claim.{Exact, Inset, Away, FarApart, PieceKept, context, OwnPieces}
+use Rattle.claims.specs.Kept.{Unblocked, Stands, Kept, pairwise-by, Apart}
 use Rattle.claims.specs.Measures.{Measures}
 use Rattle.claims.specs.Starts.{SitedAt, deepest-sited, escape-sited, anchor-sited}
 use Rattle.claims.specs.Thrown.{AnchorFits}
@@ -66,13 +66,14 @@ module _ (ctx : PackCtx) (policy : ObstaclePolicy) (strict : policy ≡ Strict �
       record {
         exact = every-weaken (Stands piece (inset ctx)) Exact spots (λ p s. record { across = m .sited p s .across .num; along = m .sited p s .along .num }) (k .insets);
         insets = every-weaken (Stands piece (inset ctx)) (Inset piece (inset ctx)) spots (λ p s. s .deep) (k .insets);
-        spaced = k .apart;
+        known = m .length;
+        spaced = pairwise-by (Stands piece (inset ctx)) (Apart (spacing ctx)) (FarApart (spacing ctx)) (λ p q a b h. h .far) spots (k .insets) (k .apart);
         clear = λ e. every-weaken (Unblocked near (inset ctx)) (λ (p : Point). Every (Away (inset ctx) p) near) spots (λ p t. away (inset ctx) p near t) (k .unblocked (strict e));
         within = l;
       }
 
-  no-spots : PieceKept ctx policy pillars piece quota []
-  no-spots = record { exact = tt; insets = tt; spaced = tt; clear = λ e. tt; within = omega arith }
+  no-spots : Measures piece ctx → PieceKept ctx policy pillars piece quota []
+  no-spots m = record { exact = tt; known = m .length; insets = tt; spaced = tt; clear = λ e. tt; within = omega arith }
 
   module _ (m : Measures piece ctx) (spread : ctx .mode .spread ≡ true) where
     abbrev Claimed : List Point → Type 0
@@ -89,8 +90,8 @@ module _ (ctx : PackCtx) (policy : ObstaclePolicy) (strict : policy ≡ Strict �
 
     uniform-kept : (rectangular : Bool) (d : Deepest) → SitedAt d → Claimed (packUniformPiece d piece quota ctx pillars rectangular)
     unfolding packUniformPiece
-    uniform-kept rectangular Nothing s = no-spots
-    uniform-kept rectangular Full s = no-spots
+    uniform-kept rectangular Nothing s = no-spots m
+    uniform-kept rectangular Full s = no-spots m
     uniform-kept rectangular (Found x y d) s = around-kept rectangular x y s
 
     from-kept : (anchor : Anchor) → AnchorFits anchor → Claimed (packScatter anchor piece quota ctx pillars)
@@ -152,7 +153,7 @@ module _ (room : ℕ) (numbers : Spreading) (options : GlyphOptions) (pillars : 
     where
       go : (t : Bool) (spots : List Point) (without after : List (List Point)) → PieceKept ctx (options .«obstacle_policy») pillars piece quota spots → Own pieces quotas without → Own pieces quotas after
           → Own (piece ∷ pieces) (quota ∷ quotas) (cond t ([] ∷ without) (spots ∷ after))
-      go true spots without after h w a = (no-spots ctx (options .«obstacle_policy») (strict-mode options) pillars piece quota, w)
+      go true spots without after h w a = (no-spots ctx (options .«obstacle_policy») (strict-mode options) pillars piece quota (measured piece (k .0)), w)
       go false spots without after h w a = (h, a)
 
   -- A ZONE

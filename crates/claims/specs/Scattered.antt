@@ -30,8 +30,7 @@ use Rattle.lattice.specs.Context.{inset, spacing}
 use Rattle.lattice.specs.Escape.{squaredDistance}
 use Rattle.lattice.specs.Uniform.{localTo}
 use Rattle.scatter.specs.LowDiscrepancy.{Anchor, sameℤ, beside, cellNumber, cellSize, apart, passes, packWithin, packScatter}
-use Rattle.claims.specs.Claim.{Apart}
-use Rattle.claims.specs.Kept.{Kept, none-kept, kept-by, Sited, apart-sym, computed-apart}
+use Rattle.claims.specs.Kept.{Kept, none-kept, kept-by, Sited, Apart, apart-sym, computed-apart}
 use Rattle.claims.specs.Measures.{Within, BoxSized, Measures}
 use Rattle.claims.specs.Thrown.{AnchorFits, Tested, scattered}
 use Rattle.claims.specs.Counts.{scattered-count}
