@@ -61,6 +61,9 @@ every-unmap P f [] h = tt
 every-unmap P f (x ∷ xs) h = (h .0, every-unmap P f xs (h .1))
 
 -- ---- the ceiling of an accepted job
+abbrev most : ℕ
+most = 1024
+
 least-num : Num leastCeiling
 unfolding ofBits fits
 least-num = record { fit = tt; fine = tt }
@@ -73,11 +76,11 @@ least-is : mag leastCeiling * 1024 ≡ U
 unfolding ofBits mag U
 least-is = refl
 
-not-low : (top : Chosen) → lowFault top ≡ 0 → ((r-hi : Float) → top ≡ some r-hi → Sized r-hi 1024) → (r-hi : Float) → top ≡ some r-hi → val leastCeiling ≼ val r-hi
+not-low : (top : Chosen) → lowFault top ≡ 0 → ((r-hi : Float) → top ≡ some r-hi → Sized r-hi most) → (r-hi : Float) → top ≡ some r-hi → val leastCeiling ≼ val r-hi
 unfolding lowFault
 not-low top e s r-hi h = le→≼ leastCeiling r-hi least-num (s r-hi h .num) (yes (passed 16 (r-hi ≥ᶠ leastCeiling) (omega arith) (subst (λ (c : Chosen). lowFault c ≡ 0) h e)))
 
-topped : (top : Chosen) → lowFault top ≡ 0 → ((r-hi : Float) → top ≡ some r-hi → Sized r-hi 1024) → Topped top
+topped : (top : Chosen) → lowFault top ≡ 0 → ((r-hi : Float) → top ≡ some r-hi → Sized r-hi most) → Topped most top
 topped top e s =
     record {
       sized = s;
@@ -98,7 +101,7 @@ accepted s first second sheet e =
     let d = both (sheetFault (jobOf s) (length sheet)) _ (c .1) .1 in
     (c .0, both (searchFault (jobOf s)) _ d .1)
 
-module _ (ceiling-sized : (job : Job) → JobKnown job → (r-hi : Float) → ceilingOf (job .options) (workOf (job .zones)) (job .options .radius) ≡ some r-hi → Sized r-hi 1024) where
+module _ (ceiling-sized : (job : Job) → JobKnown job → (r-hi : Float) → ceilingOf (job .options) (workOf (job .zones)) (job .options .radius) ≡ some r-hi → Sized r-hi most) where
   -- a job without fault, its sheet and any bytes after it
   kept : (s : List ℕ) → itemsFault s ≡ 0 → ceilingFault (jobOf s) ≡ 0 → (ys : List ℕ) → SheetKept s (sheetOf (sheetFor (placementsOf (jobOf s))) ++ ys)
   unfolding ceilingFault placementsOf sheetFor
@@ -107,7 +110,7 @@ module _ (ceiling-sized : (job : Job) → JobKnown job → (r-hi : Float) → ce
       let p = placementsOf job in
       let k = job-known s i in
       let l = left-in (job .zones) (k .zones) (k .marks) in
-      let h = placements-kept source (job .options) (k .options) (rectangles (job .obstacles)) (job .zones) l (topped (ceilingOf (job .options) (workOf (job .zones)) (job .options .radius)) c (ceiling-sized job k)) in
+      let h = placements-kept most (omega arith) (omega arith) source (job .options) (k .options) (rectangles (job .obstacles)) (job .zones) l (topped (ceilingOf (job .options) (workOf (job .zones)) (job .options .radius)) c (ceiling-sized job k)) in
       let few : length (p .zones) ≤ 64 = omega (arith, sym (length-map (p .zones) (λ (placed : Placed). placed .zone)), ap length (h .same), few-left (job .zones), k .fewZones) in
       let inside : Every (λ (placed : Placed). LeftIn (placed .zone)) (p .zones) = every-unmap LeftIn (λ (placed : Placed). placed .zone) (p .zones) (rw (h .same) l) in
       let w : WritableSheet (sheetFor p) =

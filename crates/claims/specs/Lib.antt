@@ -12,6 +12,7 @@ pub mod Fair
 pub mod FairExamples
 pub mod Halved
 pub mod HandOut
+pub mod Insets
 pub mod Kept
 pub mod Lattices
 pub mod Measured

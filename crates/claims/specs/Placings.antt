@@ -1,12 +1,12 @@
 -- The zones that `place_glyphs` leaves in, at the radius that it finds: each keeps what is claimed of its pieces.
--- Rests on the law of a zone, and on the radius being 2 ^ -21 to 1,024 wherever spots are placed.
+-- Rests on the law of a zone, and on the radius being 2 ^ -21 to 1,084 wherever spots are placed.
 use mathlib.Core.Path.{_≡_, refl, sym, ap, subst}
 use mathlib.Core.Logic.{_⊎_, inl, inr}
 use mathlib.Core.Bool.{Bool, true, false, not, cond, _&&_}
 use mathlib.Core.List.{List, [], _∷_, map}
 use Prim.Native.Nat.{ℕ, _*_, _≤_, _<_}
 use native.Mathlib.Omega.{arith}
-use lib.Dec.{T, eqb, eqb→eq, lit<}
+use lib.Dec.{T, eqb, eqb→eq}
 use lib.ListN.{length}
 use lib.Ieee.{Float, binary64, fits, isNan}
 use lib.Ieee.Fits.{cond-fits, div-fits}
@@ -46,8 +46,8 @@ pub record LeftIn (zone : Zone) : Type 0 where
   pub few : zone .count ≤ 2000
 
 -- a ceiling, where there is one
-pub record Topped (top : Chosen) : Type 0 where
-  pub sized : (r-hi : Float) → top ≡ some r-hi → Sized r-hi 1024
+pub record Topped (k : ℕ) (top : Chosen) : Type 0 where
+  pub sized : (r-hi : Float) → top ≡ some r-hi → Sized r-hi k
   pub nonneg : (r-hi : Float) → top ≡ some r-hi → Nonneg r-hi
   pub least : (r-hi : Float) → top ≡ some r-hi → U ≤ 1024 * mag r-hi
 
@@ -55,7 +55,7 @@ same-zones : (f : Zone → List (List Point)) (zones : List Zone) → map (λ (p
 same-zones f [] = refl
 same-zones f (zone ∷ zones) = ap (λ (later : List Zone). zone ∷ later) (same-zones f zones)
 
-module _ (numbers : Spreading) (options : GlyphOptions) (o : OptionsKnown options) (given : List Rectangle) (zones : List Zone) (k : Every LeftIn (workOf zones)) where
+module _ (most : ℕ) (big : 1024 ≤ most) (few : most ≤ 1084) (numbers : Spreading) (options : GlyphOptions) (o : OptionsKnown options) (given : List Rectangle) (zones : List Zone) (k : Every LeftIn (workOf zones)) where
   abbrev Own : Float → Placed → Type 0
   Own radius placed = OwnPieces options (sanitizeObstacles given) radius (placed .zone .pieces) (quotas (placed .zone)) (placed .spots)
 
@@ -64,7 +64,7 @@ module _ (numbers : Spreading) (options : GlyphOptions) (o : OptionsKnown option
     pub own : Every (Own (p .radius)) (p .zones)
     pub fit : T (fits binary64 (p .radius))
 
-  packed : (r : Float) (made more : ℕ) → Usable r 1024 → PlacementsKept (packAt room numbers options given zones r made more)
+  packed : (r : Float) (made more : ℕ) → Usable r most → PlacementsKept (packAt room numbers options given zones r made more)
   unfolding packAt
   packed r made more u =
       let pillars = sanitizeObstacles given in
@@ -73,7 +73,7 @@ module _ (numbers : Spreading) (options : GlyphOptions) (o : OptionsKnown option
       record {
         same = same-zones spots (workOf zones);
         own = every-map (Own r) place (workOf zones)
-          (every-weaken LeftIn (λ (zone : Zone). Own r (place zone)) (workOf zones) (λ zone l. region-kept room numbers options pillars r (measured options o pillars r u) zone (l .known .pieces)) k);
+          (every-weaken LeftIn (λ (zone : Zone). Own r (place zone)) (workOf zones) (λ zone l. region-kept room numbers options pillars r (measured most few options o pillars r u) zone (l .known .pieces)) k);
         fit = u .sized .num .fit;
       }
 
@@ -87,26 +87,26 @@ module _ (numbers : Spreading) (options : GlyphOptions) (o : OptionsKnown option
       }
 
   -- under a ceiling the radius is that of the packing
-  under-kept : (r-hi : Float) → Usable (packUnder room numbers options given zones r-hi .radius) 1024 → PlacementsKept (packUnder room numbers options given zones r-hi)
+  under-kept : (r-hi : Float) → Usable (packUnder room numbers options given zones r-hi .radius) most → PlacementsKept (packUnder room numbers options given zones r-hi)
   unfolding packUnder
   under-kept r-hi u = go (eqb (length (sanitizeObstacles given)) 0) _ _ _ _ _ u
     where
-      go : (t : Bool) (r r' : Float) (a b c : ℕ) → Usable (cond t (packAt room numbers options given zones r a 0) (packAt room numbers options given zones r' b c) .radius) 1024
+      go : (t : Bool) (r r' : Float) (a b c : ℕ) → Usable (cond t (packAt room numbers options given zones r a 0) (packAt room numbers options given zones r' b c) .radius) most
           → PlacementsKept (cond t (packAt room numbers options given zones r a 0) (packAt room numbers options given zones r' b c))
       go true r r' a b c u = packed r a 0 (unfold packAt in u)
       go false r r' a b c u = packed r' b c (unfold packAt in u)
 
-  auto-kept : (top : Chosen) → analyticRHi room (workOf zones) (boundaryGapOf options) (options .precision) ≡ top → Topped top → PlacementsKept (placeWork room numbers options given zones Auto)
+  auto-kept : (top : Chosen) → analyticRHi room (workOf zones) (boundaryGapOf options) (options .precision) ≡ top → Topped most top → PlacementsKept (placeWork room numbers options given zones Auto)
   unfolding placeWork
   auto-kept none e t = rw e none-placed
   auto-kept (some r-hi) e t =
       let s = t .sized r-hi refl in
-      rw e (under-kept r-hi (under-ceiling room numbers options given zones r-hi (ceiling r-hi (wider (omega arith) s) (t .nonneg r-hi refl) (t .least r-hi refl)) 1024 (lit< tt) s))
+      rw e (under-kept r-hi (under-ceiling room numbers options given zones r-hi (ceiling r-hi (wider (omega (arith, few)) s) (t .nonneg r-hi refl) (t .least r-hi refl)) most (omega (arith, few)) s))
 
-  stated-usable : (r : Float) → RadiusKnown (Stated r) → T (0ᶠ <ᶠ r) → Usable r 1024
-  stated-usable r s t = go (stated-fine 1024 (omega arith) r (record { number = s .number; few = s .to; is = s .is }))
+  stated-usable : (r : Float) → RadiusKnown (Stated r) → T (0ᶠ <ᶠ r) → Usable r most
+  stated-usable r s t = go (stated-fine most big r (record { number = s .number; few = s .to; is = s .is }))
     where
-      go : Fine 1024 r → Usable r 1024
+      go : Fine most r → Usable r most
       go (inr u) = u
       go (inl z) =
           let n : Num r = rw (s .is) (share-exact (s .number) (omega (arith, s .to)) .num) in
@@ -116,12 +116,12 @@ module _ (numbers : Spreading) (options : GlyphOptions) (o : OptionsKnown option
           nothing true m z l = omega (arith, z, l)
           nothing false m z l = omega (arith, z, l)
 
-  work-kept : (radius : Radius) → RadiusKnown radius → Topped (ceilingOf options (workOf zones) radius) → PlacementsKept (placeWork room numbers options given zones radius)
+  work-kept : (radius : Radius) → RadiusKnown radius → Topped most (ceilingOf options (workOf zones) radius) → PlacementsKept (placeWork room numbers options given zones radius)
   unfolding placeWork ceilingOf
   work-kept Auto s t = auto-kept _ refl t
   work-kept (Stated r) s t = go (r >ᶠ 0ᶠ) (isFinite r) (stated-usable r s)
     where
-      go : (a b : Bool) → (T a → Usable r 1024) → PlacementsKept (cond (a && b) (packAt room numbers options given zones r 0 0) (unplaced room numbers options given zones))
+      go : (a b : Bool) → (T a → Usable r most) → PlacementsKept (cond (a && b) (packAt room numbers options given zones r 0 0) (unplaced room numbers options given zones))
       go true true u = packed r 0 0 (u tt)
       go true false u = none-placed
       go false b u = none-placed
@@ -136,7 +136,7 @@ module _ (numbers : Spreading) (options : GlyphOptions) (o : OptionsKnown option
   stated-fits (Stated r) s = max-fits r 0ᶠ (rw (s .is) (div-fits binary64 _ _)) (zero-num .fit)
 
   -- ALL ZONES
-  pub placements-kept : Topped (ceilingOf options (workOf zones) (options .radius)) → PlacementsKept (placeGlyphs room numbers options given zones)
+  pub placements-kept : Topped most (ceilingOf options (workOf zones) (options .radius)) → PlacementsKept (placeGlyphs room numbers options given zones)
   unfolding placeGlyphs
   placements-kept t = go (eqb (length (workOf zones)) 0) (eqb→eq (length (workOf zones)) 0)
     where
