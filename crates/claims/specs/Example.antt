@@ -1,4 +1,4 @@
--- The claim can be met, and says something: a job of 97 bytes under Strict, with one pillar and two spots in one piece.
+-- A job of 97 bytes under Strict, with one pillar and two spots in one piece: what it says, and where the packer's definition places its spots.
 -- Proved by computation.
 use mathlib.Core.Path.{_≡_, refl}
 use mathlib.Core.Bool.{true}
@@ -51,7 +51,7 @@ use Rattle.job.specs.Plan.{room, source, placementsOf}
 use Rattle.claims.specs.Claim.{pillarsOf, placedOf}
 
 -- LowDiscrepancy, Strict, radius 1, gap 0 followed, precision 1, no attempts, seed 0; a pillar of 2 by 2 at (6, 4); zone `A`, count 2, the square (0, 0) to (12, 12)
-job : List ℕ
+pub job : List ℕ
 job =
     0 ∷ 0 ∷ 0 ∷ 93
     ∷ 1 ∷ 2 ∷ 1
@@ -72,55 +72,55 @@ job =
     ∷ 0 ∷ 0 ∷ 0 ∷ 0 ∷ 0 ∷ 0 ∷ 48 ∷ 0
     ∷ []
 
-lent : lentFault job ≡ 0
+pub lent : lentFault job ≡ 0
 unfolding job lentFault _unless_ _orElse_ uint
 lent = refl
 
-read : itemsFault job ≡ 0
+pub read : itemsFault job ≡ 0
 unfolding job itemsFault headFault choicesFault measuresFault numberAfter obstaclesFault obstaclesEnd zonesFault zonesEnd zoneFault zoneNext openingFault keyFault countsFault letterFault letter above keyAt countAt zoneEnd pieceFault pieceEnd ringFault ringEnd item inRange coordIn uint faults past _unless_ _orElse_
 read = refl
 
 -- ---- what it says
-abbrev 4ᶠ : Float
+abbrev pub 4ᶠ : Float
 4ᶠ = literal 0x4010_0000_0000_0000
 
-abbrev 6ᶠ : Float
+abbrev pub 6ᶠ : Float
 6ᶠ = literal 0x4018_0000_0000_0000
 
-abbrev 12ᶠ : Float
+abbrev pub 12ᶠ : Float
 12ᶠ = literal 0x4028_0000_0000_0000
 
-abbrev options : GlyphOptions
+abbrev pub options : GlyphOptions
 options = record { arrangement = LowDiscrepancy; radius = Stated 1ᶠ; gap = 0ᶠ; «boundary_gap» = Follows; seed = 0; precision = 1ᶠ; «max_attempts» = 0; «obstacle_policy» = Strict }
 
-abbrev square : Zone
+abbrev pub square : Zone
 square = record { key = 65 ∷ []; count = 2; pieces = ((0ᶠ ∷ 0ᶠ ∷ 12ᶠ ∷ 0ᶠ ∷ 12ᶠ ∷ 12ᶠ ∷ 0ᶠ ∷ 12ᶠ ∷ []) ∷ []) ∷ [] }
 
-abbrev said : Job
+abbrev pub said : Job
 said = record { options = options; obstacles = 6ᶠ ∷ 4ᶠ ∷ 2ᶠ ∷ 2ᶠ ∷ []; zones = square ∷ [] }
 
-says : jobOf job ≡ said
+pub says : jobOf job ≡ said
 unfolding job jobOf optionsOf arrangementOf policyOf radiusOf boundaryOf obstacles obstaclesEnd zones zone keyAt countAt zoneEnd piece pieceEnd ring ringEnd coordAt coordOf part uint each past Ieee.ofBits Ieee.ofFields Ieee.odd Ieee.climb Ieee.span Ieee.size Ieee.units Ieee.round Ieee.neg Ieee.div Ieee.ofInt
 says = refl
 
 -- ---- what is placed
-abbrev corner : Piece
+abbrev pub corner : Piece
 corner = (0ᶠ ∷ 0ᶠ ∷ 12ᶠ ∷ 0ᶠ ∷ 12ᶠ ∷ 12ᶠ ∷ 0ᶠ ∷ 12ᶠ ∷ []) ∷ []
 
-abbrev pillar : Rectangle
+abbrev pub pillar : Rectangle
 pillar = record { center = point 6ᶠ 4ᶠ; width = 2ᶠ; height = 2ᶠ }
 
-abbrev ctx : PackCtx
+abbrev pub ctx : PackCtx
 ctx = contextAt options (pack options) 1ᶠ
 
 -- the first candidate, (6, 4), lies on the pillar; the next two do not
-abbrev one : Point
+abbrev pub one : Point
 one = point (literal 0x4008_0000_0000_0000) (literal 0x4020_0000_0000_0000)
 
-abbrev other : Point
+abbrev pub other : Point
 other = point (literal 0x4022_0000_0000_0000) (literal 0x3ff5_5555_5555_5555)
 
-shared : quotas square ≡ 2 ∷ []
+pub shared : quotas square ≡ 2 ∷ []
 unfolding quotas pieceArea shoelaceArea areaAfter areaStep areaSum next outer holes apportion total noWeight share wholeShare remainder base rems assigned byRemainder order handOut upTo insert sortBy max abs floor totalKey totalCmp Ieee.isNan Ieee.le Ieee.eq Ieee.toUnsigned Ieee.toBits Ieee.ofBits Ieee.ofFields Ieee.odd Ieee.climb Ieee.span Ieee.size Ieee.units Ieee.round Ieee.neg Ieee.sum Ieee.add Ieee.sub Ieee.mul Ieee.div Ieee.lt Ieee.ofInt
 shared = refl
 
@@ -128,7 +128,7 @@ bounded : ringBounds (outer corner) ≡ Box 0ᶠ 12ᶠ 0ᶠ 12ᶠ
 unfolding ringBounds boxOf extentsOf extent outer min max Ieee.isNan Ieee.le Ieee.eq Ieee.lt Ieee.neg Ieee.ofBits Ieee.ofFields Ieee.odd
 bounded = refl
 
-kept-near : localTo corner (pillar ∷ []) (inset ctx) ≡ pillar ∷ []
+pub kept-near : localTo corner (pillar ∷ []) (inset ctx) ≡ pillar ∷ []
 unfolding inset obstaclesNear filter near ringBounds boxOf extentsOf extent outer min max Ieee.isNan Ieee.le Ieee.eq Ieee.lt Ieee.neg Ieee.ofBits Ieee.ofFields Ieee.odd Ieee.climb Ieee.span Ieee.size Ieee.units Ieee.round Ieee.sum Ieee.add Ieee.sub Ieee.mul
 kept-near = refl
 
@@ -151,10 +151,22 @@ packed : packRegion room source options ctx (pillar ∷ []) square ≡ (one ∷ 
 unfolding packRegion packPieces packPiece
 packed = rw (shared, laid (deepestOf room options corner))
 
-pillars : pillarsOf said ≡ pillar ∷ []
+pub pillars : pillarsOf said ≡ pillar ∷ []
 unfolding rectangles rectsFrom rectAt sanitizeObstacles filter sane isFinite abs Ieee.lt Ieee.ofBits Ieee.ofFields Ieee.odd
 pillars = refl
 
-placed : placedOf said ≡ record { zone = square; spots = (one ∷ other ∷ []) ∷ [] } ∷ []
+pub placed : placedOf said ≡ record { zone = square; spots = (one ∷ other ∷ []) ∷ [] } ∷ []
 unfolding placementsOf placeGlyphs placeWork packAt workOf leftIn isFinite abs Ieee.lt Ieee.ofBits Ieee.ofFields Ieee.odd
 placed = rw (pillars, packed)
+
+pub found : placementsOf said .radius ≡ 1ᶠ
+unfolding placementsOf placeGlyphs placeWork packAt workOf leftIn isFinite abs Ieee.lt Ieee.ofBits Ieee.ofFields Ieee.odd
+found = refl
+
+pub inset-is : inset ctx ≡ 1ᶠ
+unfolding inset max Ieee.isNan Ieee.lt Ieee.ofBits Ieee.ofFields Ieee.odd Ieee.climb Ieee.span Ieee.size Ieee.units Ieee.round Ieee.sum Ieee.add Ieee.mul
+inset-is = refl
+
+pub spacing-is : spacing ctx ≡ 2ᶠ
+unfolding spacing max Ieee.isNan Ieee.lt Ieee.ofBits Ieee.ofFields Ieee.odd Ieee.climb Ieee.span Ieee.size Ieee.units Ieee.round Ieee.sum Ieee.add Ieee.mul
+spacing-is = refl

@@ -1,5 +1,6 @@
 pub mod Apart
 pub mod Areas
+pub mod AtWork
 pub mod Chosen
 pub mod Claim
 pub mod Counts
