@@ -1,16 +1,16 @@
 -- Any two cells of a lattice walk are, in exact distance, at least its spacing less 2 ^ -30 apart.
 -- Rests on the rounding crate's law of two different cells, and on no cell being visited twice.
-use mathlib.Core.Path.{_≡_, refl, sym, ap, subst, _∙_}
-use mathlib.Core.Bool.{Bool, true, false, not, cond, _&&_}
+use mathlib.Core.Path.{_≡_, refl}
+use mathlib.Core.Bool.{Bool, true, false}
 use mathlib.Core.List.{List, [], _∷_, _++_, map, foldr}
-use Prim.Native.Nat.{ℕ, zero, suc, _+_, _-_, _*_, _%_, _≤_, _<_}
+use Prim.Native.Nat.{_+_, _-_, _*_, _≤_}
 use native.Mathlib.Omega.{arith}
-use lib.Dec.{T, eqb}
+use lib.Dec.{T}
 use lib.IntN.{ℤ, pos, negsuc}
 use lib.Signed.{leZ}
 use lib.Ieee.{Float}
 use Rattle.laws.specs.Every.{Every, every-append, every-map, Pairwise, pairwise-append}
-use Rattle.float.specs.Ops.{_+ᶠ_, _-ᶠ_, _*ᶠ_, _/ᶠ_, 2ᶠ}
+use Rattle.float.specs.Ops.{_+ᶠ_, _-ᶠ_, _*ᶠ_, _/ᶠ_}
 use Rattle.float.specs.Whole.{floor, ceil, as-i64}
 use Rattle.rounding.specs.Value.{U, mag}
 use Rattle.rounding.specs.Bounds.{Sized}

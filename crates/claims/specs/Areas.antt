@@ -1,16 +1,15 @@
 -- The computed areas of a job's pieces are numbers, not negative, and at most 2 ^ 33; so is the sum of up to 16 of them, at most 2 ^ 37.
 -- Rests on the rounding laws of sizes: a ring has 256 vertices within 1,024 at most, and a piece 9 rings.
-use mathlib.Core.Path.{_≡_, refl, sym, subst}
 use mathlib.Core.Logic.{inl, inr}
-use mathlib.Core.Bool.{Bool, true, false, not, cond}
-use mathlib.Core.List.{List, [], _∷_, map, foldl}
+use mathlib.Core.Bool.{Bool, true, false, cond}
+use mathlib.Core.List.{List, [], _∷_}
 use Prim.Native.Nat.{ℕ, zero, suc, _+_, _*_, _≤_, _<_}
 use native.Mathlib.Omega.{arith}
 use lib.Dec.{T, ltb, ltb→lt, lit<, lit≤}
 use lib.ListN.{length, length-map}
 use lib.Ieee.{Float, ofBits, neg}
 use lib.Ieee.Scale.{finite}
-use Rattle.float.specs.Ops.{_+ᶠ_, _-ᶠ_, _*ᶠ_, _/ᶠ_, 0ᶠ, -0ᶠ, 2ᶠ}
+use Rattle.float.specs.Ops.{_+ᶠ_, _/ᶠ_, 0ᶠ, -0ᶠ, 2ᶠ}
 use Rattle.float.specs.Order.{abs, max}
 use Rattle.rounding.specs.Value.{U, mag}
 use Rattle.rounding.specs.Bounds.{Sized, wider, add-sized, sub-sized, mul-sized, div-sized}

@@ -13,8 +13,8 @@ use Rattle.glyphs.specs.declared.options.ObstaclePolicy.the-variants.{Strict}
 use Rattle.discs.specs.PlaceGlyphs.{leftIn, workOf}
 use Rattle.format.specs.Rows.{_unless_, _orElse_}
 use Rattle.sheet.specs.Sheet.{Placement, readSheet}
-use Rattle.job.specs.Head.{lentFault, workFault}
-use Rattle.job.specs.Job.{jobOf, itemsFault, zonesRoom, sheetRoom, sheetFault}
+use Rattle.job.specs.Head.{workFault}
+use Rattle.job.specs.Job.{zonesRoom, sheetRoom, sheetFault}
 use Rattle.job.specs.Plan.{startsDeepest, isSearched, overflows, piecesFit, searchFault, lowFault, ceilingOf, ceilingFault, numberOf, given, planOf}
 use Rattle.claims.specs.Claim.{Inset, Away, FarApart, PieceKept, ZoneKept, Zones, SheetKept}
 use Rattle.claims.specs.Example.{job, lent, read, options, square, said, says, corner, pillar, ctx, one, other, shared, kept-near, placed, pillars, found, inset-is, spacing-is}

@@ -12,7 +12,7 @@ use Rattle.rounding.specs.Value.{mag, Num}
 use Rattle.rounding.specs.Distance.{Length, tiny, distance²}
 use Rattle.rounding.specs.Shares.{Weights, sum}
 use Rattle.glyphs.specs.declared.options.ObstaclePolicy.{ObstaclePolicy}
-use Rattle.glyphs.specs.declared.options.ObstaclePolicy.the-variants.{BestEffort, Strict}
+use Rattle.glyphs.specs.declared.options.ObstaclePolicy.the-variants.{Strict}
 use Rattle.glyphs.specs.declared.rect.Point.{Point}
 use Rattle.glyphs.specs.declared.rect.Rectangle.{Rectangle}
 use Rattle.glyphs.specs.Apportion.{assigned}
@@ -24,7 +24,7 @@ use Rattle.lattice.specs.declared.context.PackCtx.{PackCtx}
 use Rattle.lattice.specs.Context.{inset, spacing}
 use Rattle.lattice.specs.Uniform.{localTo}
 use Rattle.discs.specs.declared.options.GlyphOptions.{GlyphOptions}
-use Rattle.discs.specs.Region.{Zone, areas, quotas}
+use Rattle.discs.specs.Region.{areas, quotas}
 use Rattle.discs.specs.Radius.{contextAt}
 use Rattle.discs.specs.PlaceGlyphs.{Placed, workOf, pack}
 use Rattle.sheet.specs.Sheet.{Placement, readSheet}

@@ -7,8 +7,6 @@ use Prim.Native.Nat.{ℕ, _≤_}
 use native.Mathlib.Omega.{arith}
 use lib.Dec.{T}
 use lib.ListN.{length}
-use lib.Ieee.{Float}
-use Rattle.float.specs.Ops.{_*ᶠ_, _≥ᶠ_}
 use Rattle.glyphs.specs.declared.mode.PackMode.{PackMode}
 use Rattle.glyphs.specs.declared.rect.Point.{Point}
 use Rattle.glyphs.specs.declared.rect.Rectangle.{Rectangle}
@@ -23,7 +21,6 @@ use Rattle.relax.specs.Scatter.{relaxScatter}
 use Rattle.relax.specs.Kept.{length-relaxed}
 use Rattle.lattice.specs.declared.context.PackCtx.{PackCtx}
 use Rattle.lattice.specs.Context.{inset, spacing}
-use Rattle.lattice.specs.Escape.{squaredDistance}
 use Rattle.lattice.specs.Uniform.{localTo}
 use Rattle.scatter.specs.Random.{Thrown, throws, throwWithin, packRandomPiece}
 use Rattle.claims.specs.Kept.{Kept, none-kept, kept-by, Sited, Apart, apart-sym, computed-apart}

@@ -3,38 +3,36 @@
 use mathlib.Core.Path.{_≡_, refl, sym, ap, subst, _∙_}
 use mathlib.Core.Bool.{Bool, true, false, not, cond, _&&_}
 use mathlib.Core.List.{List, [], _∷_, _++_, map}
-use Prim.Native.Nat.{ℕ, zero, suc, _+_, _*_, _≤_, _<_}
-use native.Mathlib.Nat.{le-trans}
+use Prim.Native.Nat.{ℕ, suc, _+_, _*_, _≤_, _<_}
 use native.Mathlib.Omega.{arith}
-use lib.Dec.{T, eqb, eqb→eq, ltb, ltb→lt, lit<}
-use lib.ListN.{length, drop, length-map}
+use lib.Dec.{T, eqb, eqb→eq, ltb, ltb→lt}
+use lib.ListN.{length, length-map}
 use lib.Ieee.{Float, ofBits, fits}
 use borrow.Author.Tests.{eq-eqb}
 use Rattle.laws.specs.Every.{Every}
 use Rattle.laws.specs.Lists.{written}
 use Rattle.laws.specs.Truth.{yes}
 use Rattle.float.specs.Ops.{_≥ᶠ_}
-use Rattle.rounding.specs.Signed.{plain, nat, signed, _≼_}
+use Rattle.rounding.specs.Signed.{plain, signed, _≼_}
 use Rattle.rounding.specs.Value.{U, sgn, mag, val, Num}
 use Rattle.rounding.specs.Comparison.{le→≼}
 use Rattle.rounding.specs.Bounds.{Sized}
 use Rattle.rounding.specs.Signs.{Nonneg}
 use Rattle.glyphs.specs.Rect.{rectangles}
 use Rattle.discs.specs.Region.{Zone}
-use Rattle.discs.specs.Radius.{Chosen, none, some, boundaryGapOf, analyticRHi}
-use Rattle.discs.specs.PlaceGlyphs.{Placed, Placements, leftIn, workOf, placeGlyphs}
-use Rattle.format.specs.Rows.{_orElse_}
+use Rattle.discs.specs.Radius.{Chosen, some}
+use Rattle.discs.specs.PlaceGlyphs.{Placed, leftIn, workOf}
 use Rattle.format.specs.RowLaws.{both, passed}
 use Rattle.format.specs.Known.{All}
-use Rattle.sheet.specs.Sheet.{Sheet, sheetOf, readSheet}
+use Rattle.sheet.specs.Sheet.{sheetOf}
 use Rattle.sheet.specs.Back.{WritableSheet, sheet-back}
 use Rattle.job.specs.Head.{lentFault, workFault}
 use Rattle.job.specs.Job.{Job, jobOf, itemsFault, sheetFault}
 use Rattle.job.specs.Known.{ZoneKnown, marksOf, JobKnown, job-known}
-use Rattle.job.specs.Plan.{room, leastCeiling, lowFault, ceilingOf, searchFault, ceilingFault, numberOf, source, placementsOf, placementOf, sheetFor, Plan, given, refused, planOf}
-use Rattle.claims.specs.Claim.{pillarsOf, Zones, SheetKept}
+use Rattle.job.specs.Plan.{leastCeiling, lowFault, ceilingOf, searchFault, ceilingFault, numberOf, source, placementsOf, placementOf, sheetFor, Plan, given, refused, planOf}
+use Rattle.claims.specs.Claim.{pillarsOf, SheetKept}
 use Rattle.claims.specs.Entries.{all-writable, zones-kept}
-use Rattle.claims.specs.Placings.{LeftIn, Topped, PlacementsKept, placements-kept}
+use Rattle.claims.specs.Placings.{LeftIn, Topped, placements-kept}
 
 -- ---- the zones left in
 left-in : (zones : List Zone) → All ZoneKnown zones → marksOf zones ≤ 2000 → Every LeftIn (workOf zones)

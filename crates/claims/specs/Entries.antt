@@ -1,8 +1,8 @@
 -- The entries of a sheet: what a zone's entry holds is what is claimed of it, and the bytes of a sheet can hold it.
 -- Rests on what is claimed of the pieces and on the law of quotas: no zone has more spots than its count.
-use mathlib.Core.Path.{_≡_, refl}
-use mathlib.Core.List.{List, [], _∷_, _++_, map, flatten}
-use Prim.Native.Nat.{ℕ, _+_, _-_, _*_, _/_, _≤_, _<_}
+use mathlib.Core.Path.{refl}
+use mathlib.Core.List.{List, [], _∷_, map, flatten}
+use Prim.Native.Nat.{ℕ, _-_, _≤_}
 use native.Mathlib.Omega.{arith}
 use lib.ListN.{length, length-append}
 use lib.Ieee.{Float}
@@ -13,9 +13,8 @@ use Rattle.glyphs.specs.declared.rect.Rectangle.{Rectangle}
 use Rattle.glyphs.specs.Spots.{flat, length-flat}
 use Rattle.regions.specs.Ring.{Piece}
 use Rattle.discs.specs.declared.options.GlyphOptions.{GlyphOptions}
-use Rattle.discs.specs.Region.{Zone, quotas, placedIn}
+use Rattle.discs.specs.Region.{quotas}
 use Rattle.discs.specs.PlaceGlyphs.{Placed}
-use Rattle.sheet.specs.Sheet.{Placement}
 use Rattle.sheet.specs.Back.{AllFit, Writable, AllWritable}
 use Rattle.job.specs.Plan.{placementOf}
 use Rattle.claims.specs.Claim.{Exact, OwnPieces, ZoneKept, Zones}

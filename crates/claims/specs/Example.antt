@@ -3,8 +3,7 @@
 use mathlib.Core.Path.{_≡_, refl}
 use mathlib.Core.Bool.{true}
 use mathlib.Core.List.{List, [], _∷_}
-use Prim.Native.Nat.{ℕ, zero, suc, _≤_}
-use lib.ListN.{length, take}
+use Prim.Native.Nat.{ℕ, suc}
 use lib.Ieee
 use lib.Ieee.{Float}
 use Rattle.laws.specs.Any.{all}

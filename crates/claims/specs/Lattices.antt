@@ -2,7 +2,7 @@
 -- Rests on `Walk` and `Apart`: the anchor and the box are within reach, and so is each spacing tried, none of which is below the least.
 use mathlib.Core.Path.{_≡_, subst}
 use mathlib.Core.Bool.{Bool, true, false, not, cond, _&&_, _||_}
-use mathlib.Core.List.{List, [], _∷_, _++_, map, foldr}
+use mathlib.Core.List.{List, [], _∷_, _++_, foldr}
 use Prim.Native.Nat.{ℕ, _≤_}
 use native.Mathlib.Omega.{arith}
 use lib.Dec.{T, leb, ltb}
@@ -12,7 +12,6 @@ use lib.Ieee.{Float, binary64}
 use lib.Ieee.Fits.{add-fits}
 use Rattle.laws.specs.Every.{Every, every-append, every-take, every-map, pairwise-take}
 use Rattle.float.specs.Ops.{_+ᶠ_, _-ᶠ_, _*ᶠ_, _/ᶠ_, _≤ᶠ_, 0ᶠ}
-use Rattle.float.specs.Order.{sqrt, max}
 use Rattle.float.specs.Whole.{floor, ceil, as-i64}
 use Rattle.rounding.specs.Bounds.{Sized}
 use Rattle.glyphs.specs.declared.mode.PackMode.{PackMode}

@@ -1,6 +1,6 @@
 -- What the packers' claims ask of a piece and a context: how large the box, the spacing and a place with the inset are.
 -- Definitions only; the size laws of an accepted job give it.
-use Prim.Native.Nat.{ℕ, _*_, _≤_}
+use Prim.Native.Nat.{_*_, _≤_}
 use lib.Ieee.{Float}
 use Rattle.float.specs.Laws.Nan.{Number}
 use Rattle.rounding.specs.Value.{U, mag}

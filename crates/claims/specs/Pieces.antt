@@ -13,7 +13,7 @@ use Rattle.float.specs.Ops.{_≥ᶠ_}
 use Rattle.glyphs.specs.declared.options.GlyphArrangement.{GlyphArrangement}
 use Rattle.glyphs.specs.declared.options.GlyphArrangement.the-variants.{Uniform, Rectangular, LowDiscrepancy, Random}
 use Rattle.glyphs.specs.declared.options.ObstaclePolicy.{ObstaclePolicy}
-use Rattle.glyphs.specs.declared.options.ObstaclePolicy.the-variants.{BestEffort, Strict}
+use Rattle.glyphs.specs.declared.options.ObstaclePolicy.the-variants.{Strict}
 use Rattle.glyphs.specs.declared.mode.PackMode.{PackMode}
 use Rattle.glyphs.specs.declared.rect.Point.{Point}
 use Rattle.glyphs.specs.declared.rect.Rectangle.{Rectangle}
@@ -30,7 +30,7 @@ use Rattle.lattice.specs.Context.{inset, spacing}
 use Rattle.lattice.specs.Escape.{point, escapeObstacles}
 use Rattle.lattice.specs.Uniform.{localTo, anchorOf, packLattice, packAround}
 use Rattle.scatter.specs.LowDiscrepancy.{Anchor, none, some, loneAnchor, packScatter}
-use Rattle.scatter.specs.Random.{Thrown, packRandomPiece}
+use Rattle.scatter.specs.Random.{packRandomPiece}
 use Rattle.discs.specs.declared.options.GlyphOptions.{GlyphOptions}
 use Rattle.discs.specs.Region.{Zone, quotas, deepestOf, packUniformPiece, packLowDiscrepancyPiece, packPiece, packPieces, packRegion}
 use Rattle.discs.specs.PlaceGlyphs.{pack}

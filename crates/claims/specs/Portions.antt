@@ -1,8 +1,8 @@
 -- The quotas of a zone left in add up to its count; and where some piece has positive computed area, each is less than 1 + 2 ^ -20 away from its exact share.
 -- Rests on the law of quotas, and on the areas of a job's pieces being numbers that are not negative.
-use mathlib.Core.Path.{_≡_, refl, sym, _∙_}
-use mathlib.Core.Bool.{Bool, true, false, not, cond, _||_}
-use mathlib.Core.List.{List, [], _∷_, foldl}
+use mathlib.Core.Path.{_≡_, refl, _∙_}
+use mathlib.Core.Bool.{Bool, true, false}
+use mathlib.Core.List.{List, [], _∷_}
 use Prim.Native.Nat.{ℕ, zero, suc, _+_, _*_, _≤_, _<_}
 use native.Mathlib.Omega.{arith}
 use lib.Dec.{T}
@@ -21,7 +21,6 @@ use Rattle.rounding.specs.Comparison.{lt→≺, ≺→lt}
 use Rattle.rounding.specs.Signs.{zero-num, zero-val, positive}
 use Rattle.rounding.specs.Selection.{finite-not-nan}
 use Rattle.rounding.specs.Shares.{Weight, Weights, none, more, sum, Summed, summed}
-use Rattle.regions.specs.Ring.{Piece}
 use Rattle.regions.specs.Area.{pieceArea}
 use Rattle.regions.specs.Facts.{zero-number}
 use Rattle.glyphs.specs.Apportion.{total, noWeight, assigned, apportion}

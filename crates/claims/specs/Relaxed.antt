@@ -1,19 +1,18 @@
 -- Relaxation keeps what held of the marks: clearance, obstacles under Strict, and any two of them; and their number.
 -- Rests on every move being tested again, against all other marks where they stand.
-use mathlib.Core.Path.{_≡_, refl, sym, ap, subst, _∙_}
+use mathlib.Core.Path.{_≡_, subst}
 use mathlib.Core.Bool.{Bool, true, false, not, cond, _&&_, _||_}
 use mathlib.Core.List.{List, [], _∷_, map, foldl}
 use Prim.Native.Nat.{ℕ, zero, suc, _+_, _-_, _<_, _≤_}
 use native.Mathlib.Omega.{arith}
-use native.Mathlib.Numerals.{add-one}
-use lib.Dec.{T, eqb, eqb→eq}
-use lib.ListN.{length, getD, set, length-set, length-map}
+use lib.Dec.{T, eqb}
+use lib.ListN.{length, getD, set, length-set}
 use lib.Ieee.{Float, nan, binary64}
 use lib.Ieee.Fits.{add-fits}
-use borrow.Author.Tests.{ne-eqb, eq-eqb}
+use borrow.Author.Tests.{ne-eqb}
 use Rattle.laws.specs.Every.{Every, Pairwise}
-use Rattle.laws.specs.Lists.{upTo, getD-map}
-use Rattle.float.specs.Ops.{_-ᶠ_, _*ᶠ_, _/ᶠ_, _<ᶠ_, _≤ᶠ_, _≥ᶠ_, 0ᶠ, 1ᶠ, ½ᶠ}
+use Rattle.laws.specs.Lists.{upTo}
+use Rattle.float.specs.Ops.{_*ᶠ_, _/ᶠ_, _<ᶠ_, _≤ᶠ_, _≥ᶠ_, 0ᶠ, 1ᶠ, ½ᶠ}
 use Rattle.float.specs.Order.{hypot, min}
 use Rattle.float.specs.Laws.Nan.{Number}
 use Rattle.float.specs.Laws.Compare.{not-lt-le}

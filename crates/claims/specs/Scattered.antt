@@ -4,7 +4,7 @@ use mathlib.Core.Path.{_≡_, refl, sym, subst}
 use mathlib.Core.Logic.{inl, inr}
 use mathlib.Core.Bool.{Bool, true, false, not, cond, _&&_, _||_}
 use mathlib.Core.List.{List, []}
-use Prim.Native.Nat.{ℕ, zero, suc, _*_, _≤_}
+use Prim.Native.Nat.{ℕ, _*_, _≤_}
 use native.Mathlib.Omega.{arith}
 use lib.Dec.{T, eqb}
 use lib.IntN.{ℤ, pos, negsuc, sucℤ, predℤ, pred-suc}
@@ -15,7 +15,7 @@ use Rattle.float.specs.Ops.{_*ᶠ_, _≥ᶠ_, ε}
 use Rattle.float.specs.Order.{max}
 use Rattle.rounding.specs.Value.{U, H, sgn, mag, Num}
 use Rattle.rounding.specs.Selection.{max-case}
-use Rattle.rounding.specs.Bounds.{Sized, wider}
+use Rattle.rounding.specs.Bounds.{wider}
 use Rattle.rounding.specs.Distance.{Length, length-plus}
 use Rattle.rounding.specs.Cells.{TwoApart, two-apart, cells-across, cells-along}
 use Rattle.glyphs.specs.declared.mode.PackMode.{PackMode}
@@ -29,7 +29,7 @@ use Rattle.lattice.specs.declared.context.PackCtx.{PackCtx}
 use Rattle.lattice.specs.Context.{inset, spacing}
 use Rattle.lattice.specs.Escape.{squaredDistance}
 use Rattle.lattice.specs.Uniform.{localTo}
-use Rattle.scatter.specs.LowDiscrepancy.{Anchor, sameℤ, beside, cellNumber, cellSize, apart, passes, packWithin, packScatter}
+use Rattle.scatter.specs.LowDiscrepancy.{Anchor, sameℤ, beside, cellNumber, apart, passes, packWithin, packScatter}
 use Rattle.claims.specs.Kept.{Kept, none-kept, kept-by, Sited, Apart, apart-sym, computed-apart}
 use Rattle.claims.specs.Measures.{Within, BoxSized, Measures}
 use Rattle.claims.specs.Thrown.{AnchorFits, Tested, scattered}

@@ -4,7 +4,6 @@ use mathlib.Core.Path.{_≡_, refl, subst}
 use mathlib.Core.Bool.{Bool, true, false, not, cond, _||_}
 use mathlib.Core.List.{List, [], _∷_, foldl}
 use Prim.Native.Nat.{ℕ, zero, suc, _+_}
-use native.Mathlib.Omega.{arith}
 use lib.Dec.{T, eqb, ltb, lit≤}
 use lib.ListN.{length}
 use lib.Ieee.{Float, binary64}
@@ -29,7 +28,7 @@ use Rattle.deepest.specs.declared.search.Best.{Best}
 use Rattle.deepest.specs.declared.search.Corner.{Corner}
 use Rattle.deepest.specs.declared.search.Deepest.{Deepest}
 use Rattle.deepest.specs.declared.search.Deepest.the-variants.{Found, Nothing, Full}
-use Rattle.deepest.specs.Order.{halvesFrom, halfAt}
+use Rattle.deepest.specs.Order.{halvesFrom}
 use Rattle.deepest.specs.Match.{Each, each-enter}
 use Rattle.deepest.specs.Deepest.{heft, sumOver, betterOf, answerOf, nextCorner, firstCorner, Grid, waiting, over, makeCell, splitsAt, gridFrom, enterFour, turns, finish, centreOf, searchIn, deepestPoint, deeperOf, poiWithHoles}
 use Rattle.lattice.specs.declared.escape.Best.{Best as Exit}

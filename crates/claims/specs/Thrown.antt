@@ -1,6 +1,5 @@
 -- What holds of the marks that the low-discrepancy and the random packer place: clearance, obstacles, and any two of them.
 -- Rests on each mark being admitted by the computed tests, against all placed before it.
-use mathlib.Core.Path.{_≡_, refl, sym, subst}
 use mathlib.Core.Bool.{Bool, true, false, not, cond, _&&_, _||_}
 use mathlib.Core.List.{List, [], _∷_, _++_}
 use Prim.Native.Nat.{ℕ, zero, suc, _+_, _-_}
@@ -9,7 +8,7 @@ use lib.ListN.{length}
 use lib.Ieee.{Float, binary64}
 use lib.Ieee.Fits.{add-fits}
 use Rattle.laws.specs.Any.{all}
-use Rattle.laws.specs.Every.{Every, every-append, every-weaken, every-all, Pairwise, pairwise-append}
+use Rattle.laws.specs.Every.{Every, every-append, every-weaken, every-all, pairwise-append}
 use Rattle.glyphs.specs.declared.mode.PackMode.{PackMode}
 use Rattle.glyphs.specs.declared.rect.Point.{Point}
 use Rattle.glyphs.specs.declared.rect.Rectangle.{Rectangle}

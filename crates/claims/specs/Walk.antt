@@ -1,9 +1,8 @@
 -- What holds of the cells that a lattice walk finds, and of those taken: clearance, obstacles, and any two of them.
 -- Rests on the walk judging each cell by the computed tests, and on sorting keeping the elements.
-use mathlib.Core.Path.{_≡_, refl}
-use mathlib.Core.Bool.{Bool, true, false, not, cond, _||_}
+use mathlib.Core.Bool.{Bool, true, false, cond, _||_}
 use mathlib.Core.List.{List, [], _∷_, _++_}
-use Prim.Native.Nat.{ℕ, zero, suc, _-_}
+use Prim.Native.Nat.{ℕ, _-_}
 use lib.Dec.{T, leb}
 use lib.ListN.{length, take}
 use lib.Ieee.{Float}
