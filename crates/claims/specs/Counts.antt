@@ -15,7 +15,6 @@ use Rattle.laws.specs.Sort.{place, insert, sortBy}
 use Rattle.glyphs.specs.declared.rect.Point.{Point}
 use Rattle.glyphs.specs.declared.rect.Rectangle.{Rectangle}
 use Rattle.glyphs.specs.declared.stream.Stream.{Stream}
-use Rattle.glyphs.specs.declared.mode.PackMode.{PackMode}
 use Rattle.regions.specs.Ring.{Piece}
 use Rattle.lattice.specs.declared.context.PackCtx.{PackCtx}
 use Rattle.lattice.specs.Lattice.{HexCells, byAnchor, sortByAnchor, takeCells}

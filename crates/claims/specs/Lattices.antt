@@ -14,7 +14,6 @@ use Rattle.laws.specs.Every.{Every, every-append, every-take, every-map, pairwi
 use Rattle.float.specs.Ops.{_+ᶠ_, _-ᶠ_, _*ᶠ_, _/ᶠ_, _≤ᶠ_, 0ᶠ}
 use Rattle.float.specs.Whole.{floor, ceil, as-i64}
 use Rattle.rounding.specs.Bounds.{Sized}
-use Rattle.glyphs.specs.declared.mode.PackMode.{PackMode}
 use Rattle.glyphs.specs.declared.rect.Point.{Point}
 use Rattle.glyphs.specs.declared.rect.Rectangle.{Rectangle}
 use Rattle.glyphs.specs.declared.bounds.Bounds.{Bounds}

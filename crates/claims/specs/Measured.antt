@@ -70,6 +70,6 @@ module _ (k : ℕ) (few : k ≤ 1084) (options : GlyphOptions) (o : OptionsKnown
         short = spacing-sized k few radius (gapOf options) R G .size;
         number = sized-number (inset-sized k few radius (boundaryGapOf options) R B);
         sited = λ p s.
-          let q = inset-placed (p .x) (p .y) (radius *ᶠ (1ᶠ +ᶠ boundaryGapOf options)) piece known (s .fits .across) (s .fits .along) (inset-above k few radius (boundaryGapOf options) R B) (s .deep) in
-          record { across = wider (lit≤ tt) (q .across); along = wider (lit≤ tt) (q .along) };
+            let q = inset-placed (p .x) (p .y) (radius *ᶠ (1ᶠ +ᶠ boundaryGapOf options)) piece known (s .fits .across) (s .fits .along) (inset-above k few radius (boundaryGapOf options) R B) (s .deep) in
+            record { across = wider (lit≤ tt) (q .across); along = wider (lit≤ tt) (q .along) };
       }

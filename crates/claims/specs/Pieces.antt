@@ -14,7 +14,6 @@ use Rattle.glyphs.specs.declared.options.GlyphArrangement.{GlyphArrangement}
 use Rattle.glyphs.specs.declared.options.GlyphArrangement.the-variants.{Uniform, Rectangular, LowDiscrepancy, Random}
 use Rattle.glyphs.specs.declared.options.ObstaclePolicy.{ObstaclePolicy}
 use Rattle.glyphs.specs.declared.options.ObstaclePolicy.the-variants.{Strict}
-use Rattle.glyphs.specs.declared.mode.PackMode.{PackMode}
 use Rattle.glyphs.specs.declared.rect.Point.{Point}
 use Rattle.glyphs.specs.declared.rect.Rectangle.{Rectangle}
 use Rattle.glyphs.specs.declared.stream.Stream.{Stream}

@@ -73,7 +73,7 @@ module _ (most : ℕ) (big : 1024 ≤ most) (few : most ≤ 1084) (numbers : Spr
       record {
         same = same-zones spots (workOf zones);
         own = every-map (Own r) place (workOf zones)
-          (every-weaken LeftIn (λ (zone : Zone). Own r (place zone)) (workOf zones) (λ zone l. region-kept room numbers options pillars r (measured most few options o pillars r u) zone (l .known .pieces)) k);
+            (every-weaken LeftIn (λ (zone : Zone). Own r (place zone)) (workOf zones) (λ zone l. region-kept room numbers options pillars r (measured most few options o pillars r u) zone (l .known .pieces)) k);
         fit = u .sized .num .fit;
       }
 

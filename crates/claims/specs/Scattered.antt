@@ -18,7 +18,6 @@ use Rattle.rounding.specs.Selection.{max-case}
 use Rattle.rounding.specs.Bounds.{wider}
 use Rattle.rounding.specs.Distance.{Length, length-plus}
 use Rattle.rounding.specs.Cells.{TwoApart, two-apart, cells-across, cells-along}
-use Rattle.glyphs.specs.declared.mode.PackMode.{PackMode}
 use Rattle.glyphs.specs.declared.rect.Point.{Point}
 use Rattle.glyphs.specs.declared.rect.Rectangle.{Rectangle}
 use Rattle.glyphs.specs.declared.bounds.Bounds.{Bounds}

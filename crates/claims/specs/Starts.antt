@@ -199,8 +199,7 @@ module _ (piece : Piece) (near : List Rectangle) (inset : Float) (N : Number ins
   unfolding exits
   exits-fit pad rect =
       let x = a .across .num .fit in
-      let y = a .along .num .fit in
-      (
+      let y = a .along .num .fit in (
         record { across = sub-fits binary64 _ _; along = y },
         (record { across = add-fits binary64 _ _; along = y }, (record { across = x; along = sub-fits binary64 _ _ }, (record { across = x; along = add-fits binary64 _ _ }, tt))),
       )

@@ -9,7 +9,6 @@ use lib.Ieee.{Float, binary64}
 use lib.Ieee.Fits.{add-fits}
 use Rattle.laws.specs.Any.{all}
 use Rattle.laws.specs.Every.{Every, every-append, every-weaken, every-all, pairwise-append}
-use Rattle.glyphs.specs.declared.mode.PackMode.{PackMode}
 use Rattle.glyphs.specs.declared.rect.Point.{Point}
 use Rattle.glyphs.specs.declared.rect.Rectangle.{Rectangle}
 use Rattle.glyphs.specs.declared.stream.Stream.{Stream}
