@@ -1,0 +1,72 @@
+-- The square of the distance from a place to a point of an edge, against that to where the edge crosses the place's height, in exact numbers.
+-- Rests on an identity: a point of the edge on the foot's side of the crossing, but for an error, is no farther than the crossing, but for that error.
+use mathlib.Core.Path.{_≡_, refl, sym, ap, _∙_}
+use mathlib.Core.Logic.{_⊎_, inl, inr}
+use Prim.Native.Nat.{ℕ, zero, suc, _+_, _-_, _*_, _≤_, _<_}
+use native.Mathlib.Nat.{le-trans, le-of-eq, le-dest, le-of-mul-le-mul-right, mul-le-mul, mul-le-mul-left, mul-le-mul-right, mul-pos}
+use native.Mathlib.Omega.{arith}
+use Rattle.rounding.specs.Signed.{Exact, nat, opp, abs, abs-square, _⊕_, _⊖_, _⊗_, _≼_, _≈_}
+
+-- ---- products of signed numbers
+pub square-le : (X : Exact) (m : ℕ) → X ≼ nat m → opp X ≼ nat m → X ⊗ X ≼ nat (m * m)
+square-le X m h k =
+    let l : abs X ≤ m = omega arith in
+    omega (arith, abs-square X, mul-le-mul l l)
+
+product-le : (B R : Exact) (b r : ℕ) → nat 0 ≼ B → B ≼ nat b → R ≼ nat r → B ⊗ R ≼ nat (b * r)
+product-le B R b r o h k = let l : B .n ≤ B .p = omega arith in let d = le-dest l in go (B .p) (B .n) (d .0) (R .p) (R .n) (d .1) (omega (arith, d .1)) (omega arith)
+  where
+    go : (p n β p' n' : ℕ) → n + β ≡ p → β ≤ b → p' ≤ r + n' → p * p' + n * n' + 0 ≤ b * r + (p * n' + n * p')
+    go p n β p' n' e l m = rw (← e) (omega (arith, mul-le-mul-left β m, mul-le-mul-right r l))
+
+times : (A B : Exact) (a b : ℕ) → A ≈ nat a → B ≈ nat b → A ⊗ B ≈ nat (a * b)
+times A B a b e f = go (A .p) (A .n) (B .p) (B .n) (omega arith) (omega arith)
+  where
+    go : (p n p' n' : ℕ) → p ≡ a + n → p' ≡ b + n' → p * p' + n * n' + 0 ≡ a * b + (p * n' + n * p')
+    go p n p' n' e f = rw (e, f) (omega arith)
+
+-- (a b)² is a² b²
+squares : (A B : Exact) → (A ⊗ B) ⊗ (A ⊗ B) ≈ (A ⊗ A) ⊗ (B ⊗ B)
+squares A B = omega arith
+
+swapped : (A B C D : Exact) → (A ⊗ B) ⊗ (C ⊗ D) ≈ (C ⊗ B) ⊗ (A ⊗ D)
+swapped A B C D = omega arith
+
+less-square : (A C : Exact) → (A ⊖ C) ⊗ (A ⊖ C) ≈ A ⊗ A ⊕ C ⊗ C ⊖ A ⊗ C ⊖ A ⊗ C
+less-square A C = omega arith
+
+spread : (B F : Exact) → B ⊗ (F ⊕ B) ≈ B ⊗ F ⊕ B ⊗ B
+spread B F = omega arith
+
+-- ---- (P, Q) leads from a point of the edge's line to the place, and (dx, dy) along the edge, dy of size w
+sum-up :
+    (AA CC AC BF BB X Y A' B' : Exact) (a b c m r : ℕ)
+    → X ≈ AA ⊕ CC ⊖ AC ⊖ AC → Y ≈ BF ⊕ BB → AC ≈ BF → AA ≈ A' → A' ≈ nat a → BB ≈ B' → B' ≈ nat b → nat c ≈ CC → X ≼ nat m → Y ≼ nat r → a + b ≤ m + 2 * r
+sum-up AA CC AC BF BB X Y A' B' a b c m r e f g h h' i i' j k l = omega arith
+
+pub closest :
+    (P Q dx dy : Exact) (w m b r : ℕ) → dy ⊗ dy ≈ nat (w * w) → P ⊗ dy ⊖ Q ⊗ dx ≼ nat m → opp (P ⊗ dy ⊖ Q ⊗ dx) ≼ nat m → (Q ⊗ dy) ⊗ (P ⊗ dx ⊕ Q ⊗ dy) ≼ nat (b * r)
+    → (abs P * abs P + abs Q * abs Q) * (w * w) ≤ m * m + 2 * (b * r)
+closest P Q dx dy w m b r W h k l =
+    let a = abs P * abs P in
+    let q = abs Q * abs Q in
+    let A = P ⊗ dy in
+    let B = Q ⊗ dy in
+    let C = Q ⊗ dx in
+    let F = P ⊗ dx in
+    let pp : P ⊗ P ≈ nat a = omega (arith, abs-square P) in
+    let qq : Q ⊗ Q ≈ nat q = omega (arith, abs-square Q) in
+    le-trans (le-of-eq (apart a q (w * w)))
+    (sum-up (A ⊗ A) (C ⊗ C) (A ⊗ C) (B ⊗ F) (B ⊗ B) ((A ⊖ C) ⊗ (A ⊖ C)) (B ⊗ (F ⊕ B)) ((P ⊗ P) ⊗ (dy ⊗ dy)) ((Q ⊗ Q) ⊗ (dy ⊗ dy)) (a * (w * w)) (q * (w * w)) (abs C * abs C) (m * m) (b * r)
+    (less-square A C) (spread B F) (swapped P dy Q dx) (squares P dy) (times (P ⊗ P) (dy ⊗ dy) a (w * w) pp W) (squares Q dy) (times (Q ⊗ Q) (dy ⊗ dy) q (w * w) qq W) (abs-square C) (square-le (A ⊖ C) m h k) l)
+  where
+    apart : (a q v : ℕ) → (a + q) * v ≡ a * v + q * v
+    apart a q v = omega arith
+
+-- B of size b at most and R: above r only where B is not above 0, below -r only where it is not below
+pub record Leans (B R : Exact) (b r : ℕ) : Type 0 where
+  pub small : (B ≼ nat b) × (opp B ≼ nat b)
+  pub side : ((nat 0 ≼ B) × (R ≼ nat r)) ⊎ ((B ≼ nat 0) × (opp R ≼ nat r))
+
+pub leans : (B R : Exact) (b r : ℕ) → Leans B R b r → B ⊗ R ≼ nat (b * r)
+leans B R b r l = elim (l .side) [ inl h ↦ product-le B R b r (h .0) (l .small .0) (h .1) | inr h ↦ let k = product-le (opp B) (opp R) b r (omega (arith, h .0)) (l .small .1) (h .1) in omega (arith, k) ]
