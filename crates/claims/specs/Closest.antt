@@ -5,6 +5,7 @@ use mathlib.Core.Logic.{_⊎_, inl, inr}
 use Prim.Native.Nat.{ℕ, zero, suc, _+_, _-_, _*_, _≤_, _<_}
 use native.Mathlib.Nat.{le-trans, le-of-eq, le-dest, le-of-mul-le-mul-right, mul-le-mul, mul-le-mul-left, mul-le-mul-right, mul-pos}
 use native.Mathlib.Omega.{arith}
+use Rattle.laws.specs.Orders.{lt-or-le}
 use Rattle.rounding.specs.Signed.{Exact, nat, opp, abs, abs-square, _⊕_, _⊖_, _⊗_, _≼_, _≈_}
 
 -- ---- products of signed numbers
@@ -70,3 +71,83 @@ pub record Leans (B R : Exact) (b r : ℕ) : Type 0 where
 
 pub leans : (B R : Exact) (b r : ℕ) → Leans B R b r → B ⊗ R ≼ nat (b * r)
 leans B R b r l = elim (l .side) [ inl h ↦ product-le B R b r (h .0) (l .small .0) (h .1) | inr h ↦ let k = product-le (opp B) (opp R) b r (omega (arith, h .0)) (l .small .1) (h .1) in omega (arith, k) ]
+
+-- ---- T / u along an edge from a to b, as the nearest point is found: D is (place - a) times (b - a), L the edge's square, e an error
+pub data Foot (D L : Exact) (u T e : ℕ) : Type 0 where
+  first : T ≡ 0 → D ≼ nat e → Foot D L u T e
+  last : T ≡ u → L ⊖ D ≼ nat e → Foot D L u T e
+  inner : nat u ⊗ D ⊖ nat T ⊗ L ≼ nat (u * e) → nat T ⊗ L ⊖ nat u ⊗ D ≼ nat (u * e) → Foot D L u T e
+
+scale-le : (X : Exact) (u m : ℕ) → X ≼ nat m → nat u ⊗ X ≼ nat (u * m)
+scale-le X u m h = omega (arith, mul-le-mul-left u h)
+
+sides : (z D L B R : Exact) (u T w e : ℕ) → B ≈ nat u ⊗ z ⊖ nat (T * w) → R ≈ nat u ⊗ D ⊖ nat T ⊗ L → nat 0 ≼ z → z ≼ nat w → T ≤ u → Foot D L u T e → Leans B R (u * w) (u * e)
+sides z D L B R u T w e b r o h l f =
+    let t = scale-le z u w h in
+    let s : 0 ≤ u * w = omega arith in
+    let k = mul-le-mul-right w l in
+    let n = mul-le-mul-left u o in
+    record { small = (omega arith, omega arith); side = side f }
+  where
+    side : Foot D L u T e → ((nat 0 ≼ B) × (R ≼ nat (u * e))) ⊎ ((B ≼ nat 0) × (opp R ≼ nat (u * e)))
+    side (first q d) = inl (omega (arith, mul-le-mul-left u o, ap (λ (y : ℕ). y * w) q), omega (arith, scale-le D u e d, ap (λ (y : ℕ). y * L .p) q, ap (λ (y : ℕ). y * L .n) q))
+    side (last q d) = inr (omega (arith, scale-le z u w h, ap (λ (y : ℕ). y * w) q), omega (arith, scale-le (L ⊖ D) u e d, ap (λ (y : ℕ). y * L .p) q, ap (λ (y : ℕ). y * L .n) q))
+    side (inner p q) = elim (lt-or-le (B .p) (B .n)) [ inl g ↦ inr (omega arith, omega arith) | inr g ↦ inl (omega arith, omega arith) ]
+
+-- g and v lead from a to the place; the crossing is K at most from it
+pub record Across (g v dx dy : Exact) (w K : ℕ) : Type 0 where
+  pub height : dy ⊗ dy ≈ nat (w * w)
+  pub above : 0 < w
+  pub from : nat 0 ≼ v ⊗ dy
+  pub to : v ⊗ dy ≼ nat (w * w)
+  pub right : g ⊗ dy ⊖ v ⊗ dx ≼ nat (K * w)
+  pub left : opp (g ⊗ dy ⊖ v ⊗ dx) ≼ nat (K * w)
+
+module _ (g v dx dy : Exact) (u T : ℕ) where
+  -- from the point T / u along the edge to the place, times u
+  abbrev pub acrossFrom : Exact
+  acrossFrom = nat u ⊗ g ⊖ nat T ⊗ dx
+
+  abbrev pub alongFrom : Exact
+  alongFrom = nat u ⊗ v ⊖ nat T ⊗ dy
+
+  part : (g d m : Exact) → (nat u ⊗ g ⊖ nat T ⊗ d) ⊗ m ≈ nat u ⊗ (g ⊗ m) ⊖ nat T ⊗ (d ⊗ m)
+  part g d m = omega arith
+
+  turn : acrossFrom ⊗ dy ⊖ alongFrom ⊗ dx ≈ nat u ⊗ (g ⊗ dy ⊖ v ⊗ dx)
+  turn = join (acrossFrom ⊗ dy) (alongFrom ⊗ dx) (g ⊗ dy) (v ⊗ dx) (dx ⊗ dy) (dy ⊗ dx) (part g dx dy) (part v dy dx) (both dx dy)
+    where
+      both : (x y : Exact) → nat T ⊗ (x ⊗ y) ≈ nat T ⊗ (y ⊗ x)
+      both x y = omega arith
+
+      join : (A C a c x y : Exact) → A ≈ nat u ⊗ a ⊖ nat T ⊗ x → C ≈ nat u ⊗ c ⊖ nat T ⊗ y → nat T ⊗ x ≈ nat T ⊗ y → A ⊖ C ≈ nat u ⊗ (a ⊖ c)
+      join A C a c x y e f h = omega arith
+
+  rest : acrossFrom ⊗ dx ⊕ alongFrom ⊗ dy ≈ nat u ⊗ (g ⊗ dx ⊕ v ⊗ dy) ⊖ nat T ⊗ (dx ⊗ dx ⊕ dy ⊗ dy)
+  rest = join (acrossFrom ⊗ dx) (alongFrom ⊗ dy) (g ⊗ dx) (v ⊗ dy) (dx ⊗ dx) (dy ⊗ dy) (part g dx dx) (part v dy dy)
+    where
+      join : (A C a c x y : Exact) → A ≈ nat u ⊗ a ⊖ nat T ⊗ x → C ≈ nat u ⊗ c ⊖ nat T ⊗ y → A ⊕ C ≈ nat u ⊗ (a ⊕ c) ⊖ nat T ⊗ (x ⊕ y)
+      join A C a c x y e f = omega arith
+
+  pub reached :
+      (w K e : ℕ) → Across g v dx dy w K → T ≤ u → Foot (g ⊗ dx ⊕ v ⊗ dy) (dx ⊗ dx ⊕ dy ⊗ dy) u T e
+      → abs acrossFrom * abs acrossFrom + abs alongFrom * abs alongFrom ≤ u * u * (K * K + 2 * e)
+  reached w K e a l f =
+      let X = g ⊗ dy ⊖ v ⊗ dx in
+      let B = alongFrom ⊗ dy in
+      let R = acrossFrom ⊗ dx ⊕ alongFrom ⊗ dy in
+      let W = w * w in
+      let b : B ≈ nat u ⊗ (v ⊗ dy) ⊖ nat (T * W) = level B (nat u ⊗ (v ⊗ dy)) (dy ⊗ dy) T W (part v dy dy) (a .height) in
+      let s = leans B R (u * W) (u * e) (sides (v ⊗ dy) (g ⊗ dx ⊕ v ⊗ dy) (dx ⊗ dx ⊕ dy ⊗ dy) B R u T W e b rest (a .from) (a .to) l f) in
+      let p = under (acrossFrom ⊗ dy ⊖ alongFrom ⊗ dx) (nat u ⊗ X) (u * (K * w)) turn (scale-le X u (K * w) (a .right)) in
+      let n = over (acrossFrom ⊗ dy ⊖ alongFrom ⊗ dx) X (u * (K * w)) turn (scale-le (opp X) u (K * w) (a .left)) in
+      le-of-mul-le-mul-right {k = W} (le-trans (closest acrossFrom alongFrom dx dy w (u * (K * w)) (u * W) (u * e) (a .height) p n s) (omega arith)) (mul-pos (a .above) (a .above))
+    where
+      level : (B Z Y : Exact) (T W : ℕ) → B ≈ Z ⊖ nat T ⊗ Y → Y ≈ nat W → B ≈ Z ⊖ nat (T * W)
+      level B Z Y T W h y = omega (arith, ap (λ (z : ℕ). T * z) y)
+
+      under : (A Z : Exact) (m : ℕ) → A ≈ Z → Z ≼ nat m → A ≼ nat m
+      under A Z m e h = omega arith
+
+      over : (A X : Exact) (m : ℕ) → A ≈ nat u ⊗ X → nat u ⊗ opp X ≼ nat m → opp A ≼ nat m
+      over A X m e h = omega arith

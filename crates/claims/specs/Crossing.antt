@@ -117,7 +117,7 @@ pub record Crossed (y xi yi xj yj : Float) : Type 0 where
   pub quotient-size : Sized ((xj -ᶠ xi) *ᶠ (y -ᶠ yi) /ᶠ (yj -ᶠ yi +ᶠ ε)) 4096
   pub sized : Sized (crossing y xi yi xj yj) 5120
 
-difference : {x y : Float} → Coordinate x → Coordinate y → Sum (x -ᶠ y) (val x ⊖ val y) 1064 2097152
+pub difference : {x y : Float} → Coordinate x → Coordinate y → Sum (x -ᶠ y) (val x ⊖ val y) 1064 2097152
 difference c d =
     let s = sub-exact (c .multiple) (d .multiple) (omega (arith, c .few, d .few)) (omega arith) in
     record { value = s .value; count = s .count; few = omega (arith, s .few, c .few, d .few); multiple = s .multiple }

@@ -8,6 +8,7 @@ pub mod FairExamples
 pub mod Halved
 pub mod HandOut
 pub mod Middle
+pub mod Projected
 pub mod Radii
 pub mod Relaxed
 pub mod Straddle
