@@ -10,6 +10,7 @@ pub mod HandOut
 pub mod Middle
 pub mod Projected
 pub mod Radii
+pub mod Reached
 pub mod Relaxed
 pub mod Straddle
 pub mod Thrown

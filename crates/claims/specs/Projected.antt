@@ -63,7 +63,7 @@ quotient-close {x} {y} {z} r p =
     same false false s p q = q
 
 -- ---- closeness times a signed number of size m, and of a sum
-scaled-sign : (e f : ℕ) (a b : Exact) (s : Bool) (k m : ℕ) → k ≤ m → Close f e a b → Close f (e * m) (a ⊗ signed s k) (b ⊗ signed s k)
+pub scaled-sign : (e f : ℕ) (a b : Exact) (s : Bool) (k m : ℕ) → k ≤ m → Close f e a b → Close f (e * m) (a ⊗ signed s k) (b ⊗ signed s k)
 scaled-sign e f a b false k m l c = record { above = omega (arith, mul-le-mul-right k (c .above), mul-le-mul-left e l); below = omega (arith, mul-le-mul-right k (c .below), mul-le-mul-left e l) }
 scaled-sign e f a b true k m l c = record { above = omega (arith, mul-le-mul-right k (c .below), mul-le-mul-left e l); below = omega (arith, mul-le-mul-right k (c .above), mul-le-mul-left e l) }
 
