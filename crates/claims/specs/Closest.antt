@@ -1,8 +1,8 @@
 -- The square of the distance from a place to a point of an edge, against that to where the edge crosses the place's height, in exact numbers.
 -- Rests on an identity: a point of the edge on the foot's side of the crossing, but for an error, is no farther than the crossing, but for that error.
-use mathlib.Core.Path.{_≡_, refl, sym, ap, _∙_}
+use mathlib.Core.Path.{_≡_, ap}
 use mathlib.Core.Logic.{_⊎_, inl, inr}
-use Prim.Native.Nat.{ℕ, zero, suc, _+_, _-_, _*_, _≤_, _<_}
+use Prim.Native.Nat.{ℕ, _+_, _*_, _≤_, _<_}
 use native.Mathlib.Nat.{le-trans, le-of-eq, le-dest, le-of-mul-le-mul-right, mul-le-mul, mul-le-mul-left, mul-le-mul-right, mul-pos}
 use native.Mathlib.Omega.{arith}
 use Rattle.laws.specs.Orders.{lt-or-le}

@@ -1,5 +1,6 @@
 pub mod Apart
 pub mod Chosen
+pub mod Closeness
 pub mod Closest
 pub mod Counts
 pub mod Crossing

@@ -1,23 +1,24 @@
 -- The computed distance from a place to an edge is 1,031 at most where the edge crosses the place's height within 1,025 of it.
 -- Rests on the exact comparison with the crossing, and on the rounding laws.
-use mathlib.Core.Path.{_≡_, refl, sym, ap, _∙_, subst}
+use mathlib.Core.Path.{_≡_, ap}
 use mathlib.Core.Bool.{Bool, true, false}
-use Prim.Native.Nat.{ℕ, zero, suc, _+_, _-_, _*_, _≤_, _<_}
-use native.Mathlib.Nat.{le-trans, le-of-eq, le-of-lt, le-of-suc-le-suc, le-of-mul-le-mul-right, lt-of-not-le, mul-le-mul, mul-le-mul-left, mul-le-mul-right, mul-pos}
+use Prim.Native.Nat.{ℕ, suc, _+_, _*_, _≤_, _<_}
+use native.Mathlib.Nat.{le-trans, le-of-eq, le-of-suc-le-suc, le-of-mul-le-mul-right, lt-of-not-le, mul-le-mul, mul-le-mul-left, mul-le-mul-right, mul-pos}
 use native.Mathlib.Omega.{arith}
 use lib.Dec.{lit<, lit≤}
 use lib.Ieee.{Float}
 use Rattle.float.specs.Ops.{_+ᶠ_, _-ᶠ_, _*ᶠ_}
 use Rattle.rounding.specs.Signed.{Exact, signed, signed-le, nat, abs, plain, _⊕_, _⊖_, _⊗_, _≼_, _≈_}
-use Rattle.rounding.specs.Relative.{Near, Close, close-wider}
+use Rattle.rounding.specs.Relative.{Close, close-wider}
 use Rattle.rounding.specs.Value.{U, U-pos, E, H, sgn, mag, val, digits-zero, digits-whole}
-use Rattle.rounding.specs.Errors.{Rounding, Product, add-of-finite, sub-of-finite, mul-of-finite}
+use Rattle.rounding.specs.Errors.{add-of-finite, sub-of-finite, mul-of-finite}
 use Rattle.rounding.specs.Bounds.{Sized, add-sized, sub-sized, mul-sized}
 use Rattle.rounding.specs.Signs.{Nonneg, square-plus}
 use Rattle.regions.specs.Clearance.{along, edgeSquare}
 use Rattle.format.specs.Exact.{Coordinate, coordinate-sized}
 use Rattle.claims.specs.Closest.{Across, acrossFrom, alongFrom, reached}
-use Rattle.claims.specs.Projected.{slack, slack-is, close-same, product-close, scaled-sign, near-enough, dx, dy, len2, dot, dotOf, squareOf, dx-sized, dy-sized, Projection, projection}
+use Rattle.claims.specs.Closeness.{close-same, product-close, scaled-sign, near-enough}
+use Rattle.claims.specs.Projected.{slack, slack-is, dx-sized, dy-sized, projection}
 
 -- ---- numbers only: p - (a + t * d), each operation rounded, times u
 linked : (f i j k : ℕ) (e p s a m td : Exact) → Close f k e (p ⊖ s) → Close f j s (a ⊕ m) → Close f i m td → Close f (i + j + k) e (p ⊖ (a ⊕ td))
