@@ -8,6 +8,7 @@ pub mod Fair
 pub mod FairExamples
 pub mod Halved
 pub mod HandOut
+pub mod Level
 pub mod Middle
 pub mod Projected
 pub mod Radii
