@@ -1,4 +1,5 @@
 pub mod Apart
+pub mod Beside
 pub mod Chosen
 pub mod Closeness
 pub mod Closest
