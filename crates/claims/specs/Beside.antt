@@ -11,11 +11,11 @@ use Rattle.claims.specs.Closest.{Across}
 
 -- ---- numbers only: the rise is a + b and the part a of it with one sign; X leads from the edge's end to the place, R to its other end
 -- X (a + b) - a R, the way from the crossing to the place times the rise
-abbrev fromCrossing : Exact → Exact → ℕ → ℕ → Exact
+abbrev pub fromCrossing : Exact → Exact → ℕ → ℕ → Exact
 fromCrossing X R a b = X ⊗ nat (a + b) ⊖ nat a ⊗ R
 
 -- equal factors make equal products
-equal-products : (A A' B B' : Exact) → A ≈ A' → B ≈ B' → A ⊗ B ≈ A' ⊗ B'
+pub equal-products : (A A' B B' : Exact) → A ≈ A' → B ≈ B' → A ⊗ B ≈ A' ⊗ B'
 equal-products A A' B B' e f = omega (arith, ap (λ (z : ℕ). z * B .p) e, ap (λ (z : ℕ). z * B .n) e, ap (λ (z : ℕ). z * A' .p) f, ap (λ (z : ℕ). z * A' .n) f)
 
 module _ (s : Bool) (X R g v dx dy : Exact) (a b K : ℕ) (w0 : 0 < a + b) (g-is : g ≈ X ⊖ R) (v-is : v ≈ signed (not s) b) (dx-is : dx ≈ opp R) (dy-is : dy ≈ signed (not s) (a + b)) where

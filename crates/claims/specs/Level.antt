@@ -1,5 +1,5 @@
--- Where an edge crosses a place's height: the computed crossing against the exact one, and so an edge whose crossing lies beside a place lies within 1,025 of it on its height.
--- Rests on the rounding laws. The exact crossing lies between the edge's ends, so within 1,024.
+-- Where an edge crosses a height, as computed, against the exact crossing: off by 1 at most, which is far more than it is.
+-- Rests on the rounding laws.
 use mathlib.Core.Path.{_≡_, refl, ap}
 use mathlib.Core.Logic.{_⊎_, inl, inr}
 use mathlib.Core.Bool.{Bool, true, false, not}
@@ -29,11 +29,11 @@ epsilon-twice : mag ε * E ≡ 2 * U
 unfolding U
 epsilon-twice = rw epsilon-mag refl
 
-record Off (y xi yi xj yj q c : Float) : Type 0 where
-  low : val (yj -ᶠ yi) ⊗ val q ≼ (val y ⊖ val yi) ⊗ val (xj -ᶠ xi) ⊕ nat (U * mag (yj -ᶠ yi))
-  high : (val y ⊖ val yi) ⊗ val (xj -ᶠ xi) ≼ val (yj -ᶠ yi) ⊗ val q ⊕ nat (U * mag (yj -ᶠ yi))
-  below : val c ≼ val q ⊕ val xi ⊕ nat U
-  above : val q ⊕ val xi ≼ val c ⊕ nat U
+pub record Off (y xi yi xj yj q c : Float) : Type 0 where
+  pub low : val (yj -ᶠ yi) ⊗ val q ≼ (val y ⊖ val yi) ⊗ val (xj -ᶠ xi) ⊕ nat (U * mag (yj -ᶠ yi))
+  pub high : (val y ⊖ val yi) ⊗ val (xj -ᶠ xi) ≼ val (yj -ᶠ yi) ⊗ val q ⊕ nat (U * mag (yj -ᶠ yi))
+  pub below : val c ≼ val q ⊕ val xi ⊕ nat U
+  pub above : val q ⊕ val xi ≼ val c ⊕ nat U
 
 -- 1/1024, in units: a rise is one at least
 unfoldable step : ℕ
@@ -49,7 +49,7 @@ room h u s w e l k =
     let b : u * h ≤ u * u = mul-le-mul-left u k in
     omega arith
 
-off : (y xi yi xj yj : Float) → Coordinate xi → Coordinate yi → Coordinate xj → Coordinate yj → Crossed y xi yi xj yj
+pub off : (y xi yi xj yj : Float) → Coordinate xi → Coordinate yi → Coordinate xj → Coordinate yj → Crossed y xi yi xj yj
     → Off y xi yi xj yj ((xj -ᶠ xi) *ᶠ (y -ᶠ yi) /ᶠ (yj -ᶠ yi +ᶠ ε)) (crossing y xi yi xj yj)
 off y xi yi xj yj cxi cyi cxj cyj C =
     let A = yj -ᶠ yi in

@@ -5,6 +5,7 @@ pub mod Closeness
 pub mod Closest
 pub mod Counts
 pub mod Crossing
+pub mod Deep
 pub mod Fair
 pub mod FairExamples
 pub mod Halved
