@@ -1,10 +1,9 @@
 -- The edge whose crossing a place lies left of, right of the middle, or right of, left of it, crosses the place's height within 1,025 of it.
 -- Rests on the computed crossing being near the exact one, which lies between the edge's ends.
-use mathlib.Core.Path.{_≡_, refl, sym, ap}
-use mathlib.Core.Logic.{_⊎_, inl, inr}
+use mathlib.Core.Path.{ap}
 use mathlib.Core.Bool.{Bool, true, false, not}
-use Prim.Native.Nat.{ℕ, zero, suc, _+_, _*_, _≤_, _<_}
-use native.Mathlib.Nat.{le-dest, mul-le-mul-left, mul-le-mul-right}
+use Prim.Native.Nat.{ℕ, _+_, _*_, _<_}
+use native.Mathlib.Nat.{mul-le-mul-left, mul-le-mul-right}
 use native.Mathlib.Omega.{arith}
 use Rattle.rounding.specs.Signed.{Exact, signed, nat, opp, _⊕_, _⊖_, _⊗_, _≼_, _≈_}
 use Rattle.claims.specs.Closest.{Across}

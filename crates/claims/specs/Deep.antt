@@ -1,45 +1,35 @@
--- THE CLEARANCE OF A PLACE INSIDE A PIECE is 1,031 at most.
+-- A ring that a place lies inside has an edge within 1,031 of it, as computed.
 -- Rests on one of the edges beside the place crossing its height within 1,025 of it.
-use mathlib.Core.Path.{_≡_, refl, sym, ap, _∙_, subst}
+use mathlib.Core.Path.{_≡_, refl}
 use mathlib.Core.Logic.{_⊎_, inl, inr}
-use mathlib.Core.Bool.{Bool, true, false, not, cond}
-use mathlib.Core.List.{List, [], _∷_, foldl}
+use mathlib.Core.Bool.{Bool, true, false, not}
+use mathlib.Core.List.{[]}
 use Prim.Native.Nat.{ℕ, zero, suc, _+_, _-_, _*_, _^_, _≤_, _<_}
 use native.Mathlib.Nat.{le-dest, mul-pos}
 use native.Mathlib.Omega.{arith}
 use borrow.Author.Tests.{lt-ltb, le-ltb}
-use lib.Dec.{T, lit<, lit≤}
+use lib.Dec.{T}
 use lib.Pow.{pow-pos}
-use lib.Ieee.{Float, binary64, fits, lt, le}
+use lib.Ieee.{Float, binary64, fits}
 use Rattle.laws.specs.Orders.{lt-or-le}
 use Rattle.laws.specs.Truth.{yes, no}
-use Rattle.float.specs.Ops.{_+ᶠ_, _-ᶠ_, _*ᶠ_, _/ᶠ_, _<ᶠ_, 0ᶠ, ∞, ε}
-use Rattle.float.specs.Laws.Nan.{Number}
-use Rattle.float.specs.Laws.Zero.{origin-is}
-use Rattle.float.specs.Laws.Compare.{le-trans, le-self, not-lt-le}
+use Rattle.float.specs.Ops.{_+ᶠ_, _-ᶠ_, _*ᶠ_, _/ᶠ_, ε}
 use Rattle.rounding.specs.Signed.{Exact, signed, signed-le, same-size, nat, opp, _⊕_, _⊖_, _⊗_, _≼_, _≺_, _≈_}
-use Rattle.rounding.specs.Value.{U, sgn, mag, val, Num}
-use Rattle.rounding.specs.Comparison.{lt→≺, ¬lt→≼, le→≼}
-use Rattle.rounding.specs.Bounds.{Sized, wider, ranged}
-use Rattle.rounding.specs.Signs.{zero-num, zero-val, zero-sized}
-use Rattle.rounding.specs.Sqrt.{sqrt-sized}
+use Rattle.rounding.specs.Value.{U, sgn, mag, val}
+use Rattle.rounding.specs.Comparison.{lt→≺, ¬lt→≼}
+use Rattle.rounding.specs.Bounds.{Sized}
 use Rattle.glyphs.specs.Points.{Ring, vertices, xAt, yAt}
-use Rattle.regions.specs.Ring.{Piece, prev, next, outer}
+use Rattle.regions.specs.Ring.{prev, next}
 use Rattle.regions.specs.Inside.{pointInPolygon}
-use Rattle.regions.specs.Clearance.{edgeSquare, squareAt, closer, within, minDistToRings, signedClearance}
-use Rattle.regions.specs.Squares.{leastAfter, leastOfRing, leastOfRings}
-use Rattle.regions.specs.Least.{Good, least-root, ring-good, rings-good, ∞-good}
-use Rattle.regions.specs.Early.{after-falls, at-least-zero, ring-falls, inside-is}
-use Rattle.regions.specs.Sizes.{sized-number}
+use Rattle.regions.specs.Clearance.{edgeSquare, squareAt, within}
 use Rattle.format.specs.Exact.{Coordinate, coordinate-sized}
-use Rattle.format.specs.Known.{RingKnown, PieceKnown}
+use Rattle.format.specs.Known.{RingKnown}
 use Rattle.claims.specs.Straddle.{Edge, inside-between, crossing}
 use Rattle.claims.specs.Crossing.{Crossed, Ordered, ordered, spans, difference}
-use Rattle.claims.specs.Closest.{Across}
-use Rattle.claims.specs.Level.{Off, off}
+use Rattle.claims.specs.Level.{off}
 use Rattle.claims.specs.Beside.{fromCrossing, equal-products, across, left-of, right-of}
 use Rattle.claims.specs.Reached.{edge-reached}
-use Rattle.claims.specs.Within.{vertex-x, vertex-y, prev-within, Placed, edge-crossed, inside-placed, outer-known, within-outer}
+use Rattle.claims.specs.Within.{vertex-x, vertex-y, prev-within, Placed, edge-crossed, inside-placed}
 
 -- ---- numbers only: the rise w from i to j with its sign, in two parts at y
 record Split (s : Bool) (w : ℕ) (y i j : Exact) : Type 0 where
@@ -136,12 +126,12 @@ module _ (x y : Float) (v : Ring) (r : RingKnown v) (fx : T (fits binary64 x)) (
       (ordered y (yAt v i) (yAt v j) (P .along .num) (yi .multiple .num) (yj .multiple .num) (spans y (yAt v i) (yAt v j) (e .straddle))) P side)
 
   -- an edge of the ring that is near
-  record Near : Type 0 where
-    index : ℕ
-    within : index < vertices v
-    near : Sized (squareAt x y v (vertices v) index) 1062961
+  pub record Near : Type 0 where
+    pub index : ℕ
+    pub within : index < vertices v
+    pub near : Sized (squareAt x y v (vertices v) index) 1062961
 
-  some-near : pointInPolygon x y v ≡ true → Near
+  pub some-near : pointInPolygon x y v ≡ true → Near
   some-near h =
       let b = inside-between x y v h in
       let P = inside-placed x y v r fx fy h in

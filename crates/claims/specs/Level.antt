@@ -1,22 +1,20 @@
 -- Where an edge crosses a height, as computed, against the exact crossing: off by 1 at most, which is far more than it is.
 -- Rests on the rounding laws.
 use mathlib.Core.Path.{_≡_, refl, ap}
-use mathlib.Core.Logic.{_⊎_, inl, inr}
-use mathlib.Core.Bool.{Bool, true, false, not}
+use mathlib.Core.Bool.{Bool, true, false}
 use Prim.Native.Nat.{ℕ, zero, suc, _+_, _*_, _^_, _≤_, _<_}
-use native.Mathlib.Nat.{le-trans, le-of-eq, le-dest, mul-le-mul, mul-le-mul-left, mul-le-mul-right}
+use native.Mathlib.Nat.{mul-le-mul, mul-le-mul-left, mul-le-mul-right}
 use native.Mathlib.Omega.{arith}
 use lib.Dec.{lit<, lit≤}
 use lib.Ieee.{Float}
 use Rattle.float.specs.Ops.{_+ᶠ_, _-ᶠ_, _*ᶠ_, _/ᶠ_, ε}
-use Rattle.rounding.specs.Signed.{Exact, signed, signed-le, nat, opp, abs, _⊕_, _⊖_, _⊗_, _≼_, _≺_, _≈_}
+use Rattle.rounding.specs.Signed.{Exact, signed, signed-le, nat, abs, _⊕_, _⊖_, _⊗_, _≼_, _≈_}
 use Rattle.rounding.specs.Relative.{Close, close-chain, close-wider}
-use Rattle.rounding.specs.Value.{U, U-pos, E, H, sgn, mag, val}
+use Rattle.rounding.specs.Value.{U, E, H, sgn, mag, val}
 use Rattle.rounding.specs.Errors.{add-of-finite}
 use Rattle.rounding.specs.Bounds.{Sized, sub-sized, add-sized, mul-sized}
 use Rattle.format.specs.Exact.{Coordinate, coordinate-sized}
 use Rattle.claims.specs.Closeness.{close-same, product-close, quotient-close, scaled-sign, near-enough}
-use Rattle.claims.specs.Closest.{Across}
 use Rattle.claims.specs.Straddle.{crossing}
 use Rattle.claims.specs.Crossing.{Crossed, epsilon-mag, epsilon-sized}
 

@@ -1,5 +1,6 @@
 pub mod Apart
 pub mod Beside
+pub mod Bounded
 pub mod Chosen
 pub mod Closeness
 pub mod Closest
