@@ -7,6 +7,7 @@ pub mod Closest
 pub mod Counts
 pub mod Crossing
 pub mod Deep
+pub mod Deepest
 pub mod Fair
 pub mod FairExamples
 pub mod Halved
