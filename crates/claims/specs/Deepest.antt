@@ -112,3 +112,61 @@ module _ (piece : Piece) (halves : List Float) where
   unfolding finish
   finished precision room best over b a = tt
   finished precision room best (waiting q) b a = turned (sumOver heft q) precision room q best (length q) a b
+
+-- ---- of a job's pieces
+pub record Deep (x y d : Float) : Type 0 where
+  pub placed : Placed x y
+  pub sized : Sized d 1031
+  pub above : T (0ᶠ <ᶠ d)
+
+deep : (piece : Piece) → PieceKnown piece → (x y d : Float) → Honest piece x y d → T (0ᶠ <ᶠ d) → Deep x y d
+deep piece k x y d h p =
+    let l : T (d ≤ᶠ signedClearance x y piece) = rw (← h .is) (le-self d (lt-number 0ᶠ d p .1)) in
+    record {
+      placed = inset-placed x y d piece k (h .fit-x) (h .fit-y) p l;
+      sized = rw (h .is) (clearance-inside x y (h .fit-x) (h .fit-y) piece k (inset-within x y d piece p l));
+      above = p;
+    }
+
+module _ (room : ℕ) (precision : Float) where
+  searched : (piece : Piece) (e : Extents) (side : Float) → HonestFound piece (searchIn piece precision room e side)
+  unfolding searchIn centreOf
+  searched piece e side =
+      let halves = halvesFrom (side /ᶠ 2ᶠ) 22 in
+      finished piece halves precision room (centreOf piece e) (gridFrom piece halves e side room (firstCorner e) [] 0)
+      (record { is = refl; fit-x = div-fits binary64 (e .«min_x» +ᶠ e .«max_x») 2ᶠ; fit-y = div-fits binary64 (e .«min_y» +ᶠ e .«max_y») 2ᶠ })
+      (gridded piece halves e side room (firstCorner e) [] 0 tt)
+
+  pub point-honest : (piece : Piece) → HonestFound piece (deepestPoint room precision piece)
+  unfolding deepestPoint
+  point-honest piece =
+      let e = extentsOf (outer piece) in
+      let w = e .«max_x» -ᶠ e .«min_x» in
+      let h = e .«max_y» -ᶠ e .«min_y» in
+      one (HonestFound piece) (ltb (vertices (outer piece)) 3) Nothing _ tt
+      (one (HonestFound piece) (w ≤ᶠ 0ᶠ || h ≤ᶠ 0ᶠ) Nothing _ tt (searched piece e (min w h)))
+
+  pub point-deep : (piece : Piece) → PieceKnown piece → OfFound Deep (deepestPoint room precision piece)
+  point-deep piece k = go (deepestPoint room precision piece) (point-honest piece)
+    where
+      go : (found : Deepest) → HonestFound piece found → OfFound Deep found
+      go Nothing h = tt
+      go Full h = tt
+      go (Found x y d) h = deep piece k x y d (h .0) (h .1)
+
+  deeper : (P : Float → Float → Float → Type 0) (a b : Deepest) → OfFound P a → OfFound P b → OfFound P (deeperOf a b)
+  unfolding deeperOf
+  deeper P Full b p q = tt
+  deeper P Nothing b p q = q
+  deeper P (Found x y d) Full p q = tt
+  deeper P (Found x y d) Nothing p q = p
+  deeper P (Found x y d) (Found x' y' d') p q = one (OfFound P) (d' >ᶠ d) (Found x' y' d') (Found x y d) q p
+
+  -- THE DEEPEST POINT OF A ZONE'S PIECES
+  pub poi-deep : (pieces : List Piece) → All PieceKnown pieces → OfFound Deep (poiWithHoles room precision pieces)
+  unfolding poiWithHoles
+  poi-deep pieces k = go pieces k Nothing tt
+    where
+      go : (pieces : List Piece) → All PieceKnown pieces → (best : Deepest) → OfFound Deep best → OfFound Deep (foldl (λ best piece. deeperOf best (deepestPoint room precision piece)) best pieces)
+      go [] k best b = b
+      go (piece ∷ pieces) k best b = go pieces (k .1) (deeperOf best (deepestPoint room precision piece)) (deeper Deep best (deepestPoint room precision piece) b (point-deep piece (k .0)))

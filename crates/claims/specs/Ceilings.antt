@@ -1,0 +1,89 @@
+-- The ceiling of a job's radius is 1,031 at most.
+-- Rests on the bound of a deepest point's clearance: a zone's bound is no more than that.
+use mathlib.Core.Path.{_≡_, refl, sym, subst}
+use mathlib.Core.Logic.{_⊎_, inl, inr}
+use mathlib.Core.Bool.{Bool, true, false, cond, _&&_}
+use mathlib.Core.List.{List, [], _∷_, foldl}
+use Prim.Native.Nat.{ℕ, _+_, _*_, _≤_, _<_}
+use native.Mathlib.Omega.{arith}
+use lib.Dec.{T, lit<, lit≤}
+use lib.Ieee.{Float, binary64, fits, lt, ofBits}
+use lib.Ieee.Fits.{and-l, and-r, div-fits}
+use lib.Ieee.Bits.{ofBits-fits}
+use Rattle.laws.specs.Every.{Every}
+use Rattle.laws.specs.Truth.{yes}
+use Rattle.float.specs.Ops.{_+ᶠ_, _*ᶠ_, _/ᶠ_, _≤ᶠ_, _<ᶠ_, _>ᶠ_, 0ᶠ, -0ᶠ, 1ᶠ, ∞}
+use Rattle.float.specs.Order.{abs, min, sqrt}
+use Rattle.float.specs.Whole.{as-f64}
+use Rattle.float.specs.Laws.Fits.{rootOf-fits}
+use Rattle.float.specs.Laws.Order.{min-fits, min-number-r, min-le-l, min-le-r}
+use Rattle.float.specs.Laws.Compare.{le-trans, lt-le}
+use Rattle.rounding.specs.Signed.{signed, nat, plain, _≼_}
+use Rattle.rounding.specs.Value.{U, sgn, mag, val, digits-whole}
+use Rattle.rounding.specs.Comparison.{le→≼}
+use Rattle.rounding.specs.Errors.{add-of-finite}
+use Rattle.rounding.specs.Bounds.{Sized, wider, add-sized, div-sized-by, ranged}
+use Rattle.rounding.specs.Signs.{Nonneg, zero-num, zero-val, zero-sized}
+use Rattle.glyphs.specs.Rect.{isFinite}
+use Rattle.regions.specs.Ring.{Piece}
+use Rattle.regions.specs.Sizes.{sized-number}
+use Rattle.format.specs.Known.{All, PieceKnown}
+use Rattle.deepest.specs.declared.search.Deepest.{Deepest}
+use Rattle.deepest.specs.declared.search.Deepest.the-variants.{Found, Nothing, Full}
+use Rattle.deepest.specs.Deepest.{poiWithHoles}
+use Rattle.discs.specs.Region.{Zone, areas}
+use Rattle.discs.specs.Radius.{Chosen, none, some, π, lowered, analyticRHi}
+use Rattle.claims.specs.Deepest.{OfFound, Deep, poi-deep}
+
+-- ---- 1 + gap
+one-sized : Sized 1ᶠ 1
+one-sized = record { num = unfold ofBits fits in record { fit = tt; fine = tt }; size = unfold ofBits mag U in lit≤ tt }
+
+one-val : val 1ᶠ ≡ signed false (1 * U)
+unfolding ofBits sgn mag U
+one-val = refl
+
+pub record Factor (f : Float) : Type 0 where
+  pub sized : Sized f 17
+  pub nonneg : Nonneg f
+  pub least : U ≤ mag f
+
+pub factor : (gap : Float) → Sized gap 16 → Nonneg gap → Factor (1ᶠ +ᶠ gap)
+factor gap g o =
+    let f = 1ᶠ +ᶠ gap in
+    let s = add-sized one-sized g (lit< tt) in
+    let r = add-of-finite 1ᶠ gap (one-sized .num) (g .num) (s .num .fine) in
+    let l : signed false (1 * U) ≼ val f = r .least false (1 * U) (digits-whole 1 (lit< tt)) (rw one-val (omega (arith, o))) in
+    let n : Nonneg f = omega (arith, l) in
+    record { sized = s; nonneg = n; least = omega (arith, l, plain (sgn f) (mag f) n) }
+
+-- ---- what holds of the bound after each zone
+record Under (r : Float) : Type 0 where
+  top : Float
+  sized : Sized top 1031
+  below : T (r ≤ᶠ top)
+
+record Held (r : Float) : Type 0 where
+  fit : T (fits binary64 r)
+  bound : (r ≡ ∞) ⊎ Under r
+
+module _ (room : ℕ) (gap precision : Float) (G : Sized gap 16) (o : Nonneg gap) where
+  found-held : (r clearance other : Float) → T (fits binary64 r) → Sized clearance 1031 → T (fits binary64 other) → Held (min (min r (clearance /ᶠ (1ᶠ +ᶠ gap))) other)
+  found-held r clearance other f c p =
+      let F = factor gap G o in
+      let q = clearance /ᶠ (1ᶠ +ᶠ gap) in
+      let Q : Sized q 1031 = div-sized-by 1031 1 (wider (lit≤ tt) c) (F .sized) (lit< tt) (omega (arith, F .least)) (lit< tt) in
+      let m = min r q in
+      record {
+        fit = min-fits m other (min-fits r q f (div-fits binary64 clearance (1ᶠ +ᶠ gap))) p;
+        bound = inr (record { top = q; sized = Q; below = le-trans (min m other) m q (min-le-l m other (min-number-r r q (sized-number Q))) (min-le-r r q (sized-number Q)) });
+      }
+
+  lowered-held : (r : Float) (zone : Zone) → All PieceKnown (zone .pieces) → Held r → Held (lowered room gap precision r zone)
+  unfolding lowered
+  lowered-held r zone k h = go (poiWithHoles room precision (zone .pieces)) refl (poi-deep room precision (zone .pieces) k)
+    where
+      go : (d : Deepest) → poiWithHoles room precision (zone .pieces) ≡ d → OfFound Deep d → Held (lowered room gap precision r zone)
+      go Nothing e g = rw e h
+      go Full e g = rw e h
+      go (Found x y clearance) e g = rw e (found-held r clearance _ (h .fit) (g .sized) (rootOf-fits binary64 _ (div-fits binary64 _ _)))
