@@ -57,6 +57,11 @@ factor gap g o =
     let n : Nonneg f = omega (arith, l) in
     record { sized = s; nonneg = n; least = omega (arith, l, plain (sgn f) (mag f) n) }
 
+-- what is known of the ceiling
+pub record Top (r-hi : Float) : Type 0 where
+  pub sized : Sized r-hi 1031
+  pub nonneg : Nonneg r-hi
+
 -- ---- what holds of the bound after each zone
 record Under (r : Float) : Type 0 where
   top : Float
@@ -87,3 +92,37 @@ module _ (room : ℕ) (gap precision : Float) (G : Sized gap 16) (o : Nonneg gap
       go Nothing e g = rw e h
       go Full e g = rw e h
       go (Found x y clearance) e g = rw e (found-held r clearance _ (h .fit) (g .sized) (rootOf-fits binary64 _ (div-fits binary64 _ _)))
+
+  work-held : (work : List Zone) → Every (λ (zone : Zone). All PieceKnown (zone .pieces)) work → (r : Float) → Held r → Held (foldl (lowered room gap precision) r work)
+  work-held [] k r h = h
+  work-held (zone ∷ work) k r h = work-held work (k .1) (lowered room gap precision r zone) (lowered-held r zone (k .0) h)
+
+  not-finite : isFinite ∞ ≡ false
+  unfolding isFinite abs lt ofBits
+  not-finite = refl
+
+  -- a bound that is finite and above 0
+  kept : (r : Float) → Held r → T (isFinite r) → T (r >ᶠ 0ᶠ) → Sized r 1031
+  kept r h f p = go (h .bound)
+    where
+      go : (r ≡ ∞) ⊎ Under r → Sized r 1031
+      go (inl e) = absurd (subst T not-finite (rw e at f))
+      go (inr u) = ranged (h .fit) (wider (omega arith) zero-sized) (u .sized) (lt-le 0ᶠ r p) (u .below)
+
+  -- THE CEILING
+  pub ceiling-known : (work : List Zone) → Every (λ (zone : Zone). All PieceKnown (zone .pieces)) work → (r-hi : Float) → analyticRHi room work gap precision ≡ some r-hi → Top r-hi
+  unfolding analyticRHi
+  ceiling-known work k r-hi e = go (isFinite r && r >ᶠ 0ᶠ) refl e
+    where
+      r : Float
+      r = foldl (lowered room gap precision) ∞ work
+
+      top : T (isFinite r && r >ᶠ 0ᶠ) → Top r
+      top t =
+          let p = and-r (isFinite r) (r >ᶠ 0ᶠ) t in
+          let s = kept r (work-held work k ∞ (record { fit = ofBits-fits binary64 0x7ff0_0000_0000_0000; bound = inl refl })) (and-l (isFinite r) (r >ᶠ 0ᶠ) t) p in
+          record { sized = s; nonneg = rw zero-val at (le→≼ 0ᶠ r zero-num (s .num) (lt-le 0ᶠ r p)) }
+
+      go : (b : Bool) → isFinite r && r >ᶠ 0ᶠ ≡ b → cond b (some r) none ≡ some r-hi → Top r-hi
+      go true t e = let q : r ≡ r-hi = cc in subst Top q (top (yes t))
+      go false t e = let z : _≡_ {A = ℕ} 0 1 = cc in absurd (omega arith)
