@@ -34,15 +34,15 @@ use Rattle.claims.specs.Radii.{Usable, either, under-ceiling}
 abbrev pub Fine : ℕ → Float → Type 0
 Fine k r = (mag r ≡ 0) ⊎ Usable r k
 
--- ---- a stated radius
-pub record Shared (r : Float) : Type 0 where
+-- ---- numbers of 1/1024, at most so many
+pub record Shared (most : ℕ) (r : Float) : Type 0 where
   pub number : ℕ
-  pub few : number ≤ 1048576
+  pub few : number ≤ most
   pub is : r ≡ share number
 
 abbrev pub StatedKnown : Radius → Type 0
 StatedKnown Auto = Unit {0}
-StatedKnown (Stated r) = Shared r
+StatedKnown (Stated r) = Shared 1048576 r
 
 -- 1/1024, in units
 unfoldable step : ℕ
@@ -76,7 +76,7 @@ module _ (k : ℕ) (big : 1024 ≤ k) where
   zero-fine : Fine k 0ᶠ
   zero-fine = inl zero-mag
 
-  pub stated-fine : (r : Float) → Shared r → Fine k r
+  pub stated-fine : (r : Float) → Shared 1048576 r → Fine k r
   stated-fine r s = rw (s .is) (share-fine (s .number) (s .few))
 
   -- where no zone is left in

@@ -42,10 +42,10 @@ height-sized y yi yj f ci cj (inl h) = ranged f (coordinate-sized cj) (coordinat
 height-sized y yi yj f ci cj (inr h) = ranged f (coordinate-sized ci) (coordinate-sized cj) (not-lt-le yi y (sized-number (coordinate-sized ci)) (lt-number y yj (h .0) .0) (h .1)) (lt-le y yj (h .0))
 
 -- the exact heights, in order
-abbrev Ordered : Exact → Exact → Exact → Type 0
+abbrev pub Ordered : Exact → Exact → Exact → Type 0
 Ordered y i j = ((y ≺ i) × (j ≼ y)) ⊎ ((y ≺ j) × (i ≼ y))
 
-ordered : (y yi yj : Float) → Num y → Num yi → Num yj → Spans y yi yj → Ordered (val y) (val yi) (val yj)
+pub ordered : (y yi yj : Float) → Num y → Num yi → Num yj → Spans y yi yj → Ordered (val y) (val yi) (val yj)
 unfolding Spans
 ordered y yi yj p q r (inl h) = inl (lt→≺ y yi p q (h .0), ¬lt→≼ y yj p r (h .1))
 ordered y yi yj p q r (inr h) = inr (lt→≺ y yj p r (h .0), ¬lt→≼ y yi p q (h .1))
@@ -117,7 +117,7 @@ pub record Crossed (y xi yi xj yj : Float) : Type 0 where
   pub quotient-size : Sized ((xj -ᶠ xi) *ᶠ (y -ᶠ yi) /ᶠ (yj -ᶠ yi +ᶠ ε)) 4096
   pub sized : Sized (crossing y xi yi xj yj) 5120
 
-difference : {x y : Float} → Coordinate x → Coordinate y → Sum (x -ᶠ y) (val x ⊖ val y) 1064 2097152
+pub difference : {x y : Float} → Coordinate x → Coordinate y → Sum (x -ᶠ y) (val x ⊖ val y) 1064 2097152
 difference c d =
     let s = sub-exact (c .multiple) (d .multiple) (omega (arith, c .few, d .few)) (omega arith) in
     record { value = s .value; count = s .count; few = omega (arith, s .few, c .few, d .few); multiple = s .multiple }

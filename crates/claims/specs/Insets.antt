@@ -1,20 +1,19 @@
 -- The inset and the spacing at a radius of 2 ^ -21 to k, where k is 1,084 at most, and gaps of 0 to 16: the inset is above 0, and the spacing is 2 ^ -20 to 36,864.
 -- Rests on the rounding laws of sizes.
-use mathlib.Core.Path.{_≡_, refl, sym, ap, _∙_}
-use mathlib.Core.Bool.{false}
+use mathlib.Core.Path.{sym, ap, _∙_}
 use Prim.Native.Nat.{ℕ, zero, suc, _*_, _^_, _≤_, _<_}
 use native.Mathlib.Nat.{le-trans, le-of-eq, mul-assoc, mul-le-mul-left, mul-le-mul-right}
 use native.Mathlib.Omega.{arith}
-use lib.Dec.{T, lit<, lit≤}
+use lib.Dec.{T, lit≤}
 use lib.Pow.{pow-add}
-use lib.Ieee.{Float, ofBits, fits}
+use lib.Ieee.{Float}
 use Rattle.float.specs.Ops.{_+ᶠ_, _*ᶠ_, _<ᶠ_, 0ᶠ, 1ᶠ, 2ᶠ}
 use Rattle.float.specs.Order.{max}
-use Rattle.rounding.specs.Signed.{Exact, signed, plain, nat, _≼_, _≈_}
-use Rattle.rounding.specs.Value.{U, U-pos, U-is, sgn, mag, val, digits, digits-whole, digits-twice}
+use Rattle.rounding.specs.Signed.{Exact, nat, _≼_, _≈_}
+use Rattle.rounding.specs.Value.{U, U-pos, U-is, mag, val, digits, digits-twice}
 use Rattle.rounding.specs.Comparison.{≺→lt}
-use Rattle.rounding.specs.Errors.{add-of-finite, mul-of-finite}
-use Rattle.rounding.specs.Bounds.{Sized, wider, add-sized, mul-sized}
+use Rattle.rounding.specs.Errors.{mul-of-finite}
+use Rattle.rounding.specs.Bounds.{Sized, wider, mul-sized}
 use Rattle.rounding.specs.Signs.{Nonneg, positive, product-nonneg, zero-num, zero-val}
 use Rattle.rounding.specs.Selection.{max-zero-same}
 use Rattle.rounding.specs.Distance.{Length}
@@ -22,6 +21,7 @@ use Rattle.rounding.specs.Row.{two-sized, two-mag, two-plus}
 use Rattle.format.specs.Numbers.{share}
 use Rattle.format.specs.Exact.{share-exact, share-value}
 use Rattle.job.specs.Known.{Shares}
+use Rattle.claims.specs.Ceilings.{factor}
 use Rattle.claims.specs.Radii.{Usable}
 
 -- ---- gaps: 0 to 16
@@ -49,29 +49,7 @@ not-below g h = rw (max-zero-same g (h .sized .num) (h .nonneg)) h
 pub gap-of : (x : Float) → Shares 0 16384 x → Gap x
 gap-of x s = rw (s .is) (share-gap (s .number) (s .to))
 
--- ---- 1 + gap is 1 to 17
-one-sized : Sized 1ᶠ 1
-unfolding ofBits fits mag U
-one-sized = record { num = record { fit = tt; fine = tt }; size = lit≤ tt }
-
-one-val : val 1ᶠ ≡ signed false (1 * U)
-unfolding ofBits sgn mag U
-one-val = refl
-
-record Factor (f : Float) : Type 0 where
-  sized : Sized f 17
-  nonneg : Nonneg f
-  least : U ≤ mag f
-
-factor : (gap : Float) → Gap gap → Factor (1ᶠ +ᶠ gap)
-factor gap g =
-    let f = 1ᶠ +ᶠ gap in
-    let s = add-sized one-sized (g .sized) (lit< tt) in
-    let r = add-of-finite 1ᶠ gap (one-sized .num) (g .sized .num) (s .num .fine) in
-    let l : signed false (1 * U) ≼ val f = r .least false (1 * U) (digits-whole 1 (lit< tt)) (rw one-val (omega (arith, g .nonneg))) in
-    let n : Nonneg f = omega (arith, l) in
-    record { sized = s; nonneg = n; least = omega (arith, l, plain (sgn f) (mag f) n) }
-
+-- ---- the inset and the spacing
 above-zero : (m u : ℕ) → 0 < u → u ≤ m * 2097152 → 0 < m
 above-zero zero u u0 h = absurd (omega (arith, u0, h))
 above-zero (suc m) u u0 h = omega arith
@@ -79,13 +57,13 @@ above-zero (suc m) u u0 h = omega arith
 module _ (k : ℕ) (few : k ≤ 1084) (r gap : Float) (R : Usable r k) (G : Gap gap) where
   -- r * (1.0 + boundary_gap)
   pub inset-sized : Sized (r *ᶠ (1ᶠ +ᶠ gap)) (k * 17)
-  inset-sized = mul-sized (R .sized) (factor gap G .sized) (omega (arith, few))
+  inset-sized = mul-sized (R .sized) (factor gap (G .sized) (G .nonneg) .sized) (omega (arith, few))
 
   pub inset-above : T (0ᶠ <ᶠ r *ᶠ (1ᶠ +ᶠ gap))
   inset-above =
       let f = 1ᶠ +ᶠ gap in
       let z = r *ᶠ f in
-      let F = factor gap G in
+      let F = factor gap (G .sized) (G .nonneg) in
       let p = mul-of-finite r f (R .sized .num) (F .sized .num) (inset-sized .num .fine) in
       let big : mag r ≤ mag z = p .least (mag r) (digits r (R .sized .num)) (mul-le-mul-left (mag r) (F .least)) in
       let m : 0 < mag z = omega (arith, big, above-zero (mag r) U U-pos (R .least)) in
@@ -96,14 +74,14 @@ module _ (k : ℕ) (few : k ≤ 1084) (r gap : Float) (R : Usable r k) (G : Gap 
   double = mul-sized two-sized (R .sized) (omega (arith, few))
 
   pub spacing-sized : Sized (2ᶠ *ᶠ r *ᶠ (1ᶠ +ᶠ gap)) 36864
-  spacing-sized = wider (omega (arith, few)) (mul-sized double (factor gap G .sized) (omega (arith, few)))
+  spacing-sized = wider (omega (arith, few)) (mul-sized double (factor gap (G .sized) (G .nonneg) .sized) (omega (arith, few)))
 
   pub spacing-length : Length (2ᶠ *ᶠ r *ᶠ (1ᶠ +ᶠ gap))
   spacing-length =
       let f = 1ᶠ +ᶠ gap in
       let d = 2ᶠ *ᶠ r in
       let s = d *ᶠ f in
-      let F = factor gap G in
+      let F = factor gap (G .sized) (G .nonneg) in
       let p = mul-of-finite 2ᶠ r (two-sized .num) (R .sized .num) (double .num .fine) in
       let q = mul-of-finite d f (double .num) (F .sized .num) (spacing-sized .num .fine) in
       let g = digits-twice (digits r (R .sized .num)) in
