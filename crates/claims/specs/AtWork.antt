@@ -17,6 +17,7 @@ use Rattle.job.specs.Head.{workFault}
 use Rattle.job.specs.Job.{zonesRoom, sheetRoom, sheetFault}
 use Rattle.job.specs.Plan.{startsDeepest, isSearched, overflows, piecesFit, searchFault, lowFault, ceilingOf, ceilingFault, numberOf, given, planOf}
 use Rattle.claims.specs.Claim.{Inset, Away, FarApart, PieceKept, ZoneKept, Zones, SheetKept}
+use Rattle.claims.specs.Demand.{demand-3}
 use Rattle.claims.specs.Example.{job, lent, read, options, square, said, says, corner, pillar, ctx, one, other, shared, kept-near, placed, pillars, found, inset-is, spacing-is}
 
 -- ---- it is accepted
@@ -40,18 +41,18 @@ numbered : (first second : List Float) (sheet : List ℕ) → 8000 ≤ length fi
 unfolding numberOf _orElse_
 numbered first second sheet f g h = rw (lent, lent-enough (length first) (length second) f g, read, says, fits (length sheet) h, searched, not-low)
 
-pub accepted : (first second : List Float) (sheet : List ℕ) → 8000 ≤ length first → 8000 ≤ length second → 53 ≤ length sheet → planOf job first second sheet .number ≡ 0
+accepted : (first second : List Float) (sheet : List ℕ) → 8000 ≤ length first → 8000 ≤ length second → 53 ≤ length sheet → planOf job first second sheet .number ≡ 0
 unfolding planOf given
 accepted first second sheet f g h = rw (numbered first second sheet f g h)
 
 -- ---- what the claim says of it: inset 1, spacing 2
-pub record Said : Type 0 where
-  pub one-deep : Inset corner 1ᶠ one
-  pub other-deep : Inset corner 1ᶠ other
-  pub apart : FarApart 2ᶠ one other
-  pub one-away : Away 1ᶠ one pillar
-  pub other-away : Away 1ᶠ other pillar
-  pub counted : 2 ≤ 2
+record Said : Type 0 where
+  one-deep : Inset corner 1ᶠ one
+  other-deep : Inset corner 1ᶠ other
+  apart : FarApart 2ᶠ one other
+  one-away : Away 1ᶠ one pillar
+  other-away : Away 1ᶠ other pillar
+  counted : 2 ≤ 2
 
 of-piece : PieceKept ctx Strict (pillar ∷ []) corner 2 (one ∷ other ∷ []) → Said
 of-piece k =
@@ -67,7 +68,11 @@ of-zones : (entries : List Placement) → Zones options (pillar ∷ []) 1ᶠ (re
 of-zones [] h = absurd h
 of-zones (entry ∷ entries) h = of-zone entry (h .0)
 
-pub says-so : (bytes : List ℕ) → SheetKept job bytes → Said
+says-so : (bytes : List ℕ) → SheetKept job bytes → Said
 says-so bytes k =
     let r : readSheet bytes .radius ≡ 1ᶠ = k .radius ∙ rw says found in
     of-zones (readSheet bytes .zones) (rw (r, says, pillars, placed) at (k .zones))
+
+-- and so it does of the sheet that the call gives
+of-its-sheet : (first second : List Float) (sheet : List ℕ) → 8000 ≤ length first → 8000 ≤ length second → 53 ≤ length sheet → Said
+of-its-sheet first second sheet f g h = says-so (planOf job first second sheet .sheet) (demand-3 job first second sheet (accepted first second sheet f g h))

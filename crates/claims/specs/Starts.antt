@@ -38,7 +38,7 @@ SitedAt (Found x y d) = Sited (point x y)
 pub deepest-sited : (room : ℕ) (precision : Float) (piece : Piece) → PieceKnown piece → SitedAt (poiWithHoles room precision (piece ∷ []))
 deepest-sited room precision piece k = go (poiWithHoles room precision (piece ∷ [])) (poi-deep room precision (piece ∷ []) (k, tt))
   where
-    go : (d : Deepest) → OfFound (Deep room precision) d → SitedAt d
+    go : (d : Deepest) → OfFound Deep d → SitedAt d
     go Nothing h = tt
     go Full h = tt
     go (Found x y d) h = record { across = wider (lit≤ tt) (h .placed .across); along = wider (lit≤ tt) (h .placed .along) }
