@@ -1,4 +1,6 @@
 pub mod Region
 pub mod Radius
 pub mod PlaceGlyphs
+pub mod Pieces
 pub mod Floor
+pub mod Turns
