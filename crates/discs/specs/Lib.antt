@@ -1,6 +1,6 @@
 pub mod Region
+pub mod Pieces
 pub mod Radius
 pub mod PlaceGlyphs
-pub mod Pieces
 pub mod Floor
-pub mod Turns
+pub mod Walk

@@ -6,7 +6,7 @@ ghost use lib.ListN.{length};
 ghost use Rattle.discs.specs.Radius.{areaOf, ifPositive};
 ghost use Rattle.discs.specs.Pieces.{piecesOf, deepestsOf, Laid};
 ghost use Rattle.discs.specs.Floor.{handedAt, workIn, deepestIn, handedRHi, EachRow, Stands, start};
-ghost use Rattle.discs.specs.Turns.{lowering};
+ghost use Rattle.discs.specs.Walk.{lowering};
 use crate::piece::deepest_at;
 use crate::region::coords_in;
 use crate::rows::Offsets;

@@ -5,4 +5,5 @@ pub mod piece;
 pub mod radius;
 pub mod region;
 pub mod rows;
+mod stub;
 pub mod trial;

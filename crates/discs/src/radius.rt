@@ -4,7 +4,7 @@ ghost use Rattle.glyphs.specs.Rect.{rectangles};
 ghost use Rattle.discs.specs.Radius.{autoRadius};
 ghost use Rattle.discs.specs.PlaceGlyphs.{orElse, sizeUnder, sizeFor};
 ghost use Rattle.discs.specs.Floor.{workIn, handedFeasible, Floor, Lends};
-ghost use Rattle.discs.specs.Turns.{narrowed};
+ghost use Rattle.discs.specs.Walk.{narrowed};
 use crate::ceiling::Chosen;
 use crate::options::GlyphOptions;
 use crate::options::Radius;

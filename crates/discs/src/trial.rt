@@ -4,7 +4,7 @@ ghost use mathlib.Core.Bool.{true, false};
 ghost use Rattle.glyphs.specs.Rect.{rectangles};
 ghost use Rattle.discs.specs.Radius.{gapOf, boundaryGapOf, contextAt};
 ghost use Rattle.discs.specs.Floor.{handedAt, workIn, handedFeasible, Packable, Floor, Lends};
-ghost use Rattle.discs.specs.Turns.{holding};
+ghost use Rattle.discs.specs.Walk.{holding};
 use crate::options::BoundaryGap;
 use crate::options::GlyphOptions;
 use crate::region::probe_region;
