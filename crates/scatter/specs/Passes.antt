@@ -12,8 +12,10 @@ use lib.Dec.{eqb}
 use lib.Ieee.{Float}
 use lib.ListN.{length, length-append}
 use Rattle.laws.specs.Any.{all}
+use Rattle.laws.specs.Choice.{pick-true, pick-false}
 use Rattle.float.specs.Ops.{_≥ᶠ_}
 use Rattle.glyphs.specs.declared.bounds.Bounds.the-variants.{Box, Nothing}
+use Rattle.glyphs.specs.declared.bounds.Extents.{Extents}
 use Rattle.glyphs.specs.declared.rect.Point.{Point}
 use Rattle.glyphs.specs.declared.rect.Rectangle.{Rectangle}
 use Rattle.glyphs.specs.Bounds.{ringBounds}
@@ -70,62 +72,115 @@ pub first : (place : Point) (index : ℕ) (p : Point) → index ≤ 0 → firstO
 first place zero p h = refl
 first place (suc index) p h = absurd (omega arith)
 
-module _ (piece : Piece) (n : ℕ) (ctx : PackCtx) (near : List Rectangle) (anchor : Anchor) (min-x max-x min-y max-y : Float) where
-  abbrev go : Bool → ℕ → ℕ → List Point → List Point
-  go honor turns index placed = pass piece n ctx near anchor min-x max-x min-y max-y honor turns index placed
+-- ---- a pass, by what the code reads
+module _ (piece : Piece) (n : ℕ) (c : Float) (near : List Rectangle) (cells : Cells) (anchor : Anchor) (e : Extents) where
+  abbrev pub tried : ℕ → Point
+  tried index = firstOr anchor index (haltonPoint (e .«min_x») (e .«max_x») (e .«min_y») (e .«max_y») index)
 
-  -- a test of the code's is the definition's
-  pub admits-is :
-      (honor : Bool) (placed : List Point) (p : Point) (c : Float) (cells : Cells) → c ≡ inset ctx → cells ≡ cellsOf ctx min-x min-y
-      → admitsIn piece c near cells honor placed p ≡ admits piece n ctx near anchor min-x max-x min-y max-y honor placed p
-  unfolding admits admitsIn apart keeps cellsOf
-  admits-is honor placed p c cells e f = rw (e, f)
+  unfoldable pub passIn : Bool → ℕ → ℕ → List Point → List Point
+  passIn honor zero index placed = placed
+  passIn honor (suc turns) index placed =
+      let p = tried index in
+      cond (eqb (length placed) n) placed (passIn honor turns (index + 1) (placedIf (admitsIn piece c near cells honor placed p) p placed))
 
-  -- ---- the turns of a pass
-  pub pass-full : (honor : Bool) (turns index : ℕ) (placed : List Point) → length placed ≡ n → go honor turns index placed ≡ placed
-  unfolding pass
-  pass-full honor zero index placed e = refl
-  pass-full honor (suc turns) index placed e = rw (eq-eqb (length placed) n e)
+  pub pass-full : (honor : Bool) (turns index : ℕ) (placed : List Point) → length placed ≡ n → passIn honor turns index placed ≡ placed
+  unfolding passIn
+  pass-full honor zero index placed h = refl
+  pass-full honor (suc turns) index placed h = rw (eq-eqb (length placed) n h)
 
   pub pass-step :
       (honor : Bool) (turns index : ℕ) (placed : List Point) (p : Point) (b : Bool) → index < turns → (length placed ≡ n → ⊥)
-      → p ≡ firstOr anchor index (haltonPoint min-x max-x min-y max-y index) → b ≡ admits piece n ctx near anchor min-x max-x min-y max-y honor placed p
-      → go honor (turns - index) index placed ≡ go honor (turns - (index + 1)) (index + 1) (placedIf b p placed)
-  unfolding pass candidate
-  pass-step honor turns index placed p b h k e f =
+      → p ≡ tried index → b ≡ admitsIn piece c near cells honor placed p
+      → passIn honor (turns - index) index placed ≡ passIn honor (turns - (index + 1)) (index + 1) (placedIf b p placed)
+  unfolding passIn
+  pass-step honor turns index placed p b h k f g =
       let m : turns - index ≡ suc (turns - (index + 1)) = omega arith in
-      rw (m, ne-eqb (length placed) n k, ← e, ← f)
+      rw (m, ne-eqb (length placed) n k, ← f, ← g)
 
-  pub pass-end : (honor : Bool) (turns index : ℕ) (placed : List Point) → turns ≤ index → go honor (turns - index) index placed ≡ placed
-  unfolding pass
+  pub pass-end : (honor : Bool) (turns index : ℕ) (placed : List Point) → turns ≤ index → passIn honor (turns - index) index placed ≡ placed
+  unfolding passIn
   pass-end honor turns index placed h =
       let m : turns - index ≡ 0 = omega arith in
       rw m
 
-  -- no more than n are placed
-  pub pass-count : (honor : Bool) (turns index : ℕ) (placed : List Point) → length placed ≤ n → length (go honor turns index placed) ≤ n
-  unfolding pass
-  pass-count honor zero index placed h = h
-  pass-count honor (suc turns) index placed h =
-      let p = candidate piece n ctx near anchor min-x max-x min-y max-y index in
-      let b = admits piece n ctx near anchor min-x max-x min-y max-y honor placed p in
+  grown : (b : Bool) (p : Point) (ps : List Point) → length ps ≤ length (placedIf b p ps)
+  grown true p ps = simp length-append (omega arith)
+  grown false p ps = omega arith
+
+  within : (b : Bool) (p : Point) (ps : List Point) → length ps < n → length (placedIf b p ps) ≤ n
+  within true p ps h = simp length-append (omega arith)
+  within false p ps h = omega arith
+
+  -- spots are added, up to n
+  pub pass-counts : (honor : Bool) (turns index : ℕ) (placed : List Point) → length placed ≤ n → (length placed ≤ length (passIn honor turns index placed)) × (length (passIn honor turns index placed) ≤ n)
+  unfolding passIn
+  pass-counts honor zero index placed h = (omega arith, h)
+  pass-counts honor (suc turns) index placed h =
+      let p = tried index in
+      let b = admitsIn piece c near cells honor placed p in
       elim (eq-or-lt-of-le h) [
-        | inl e ↦ rw (eq-eqb (length placed) n e) h
-        | inr l ↦ rw (ne-eqb (length placed) n (λ (e : length placed ≡ n). omega arith)) (pass-count honor turns (index + 1) (placedIf b p placed) (grown b p placed l))
+        | inl k ↦ rw (eq-eqb (length placed) n k) (omega arith, h)
+        | inr l ↦
+            let r = pass-counts honor turns (index + 1) (placedIf b p placed) (within b p placed l) in
+            rw (ne-eqb (length placed) n (λ (k : length placed ≡ n). omega arith)) (omega (arith, r .0, grown b p placed), r .1)
       ]
+
+-- ---- both passes
+module _ (piece : Piece) (n : ℕ) (ctx : PackCtx) (near : List Rectangle) (anchor : Anchor) (e : Extents) (c : Float) (cells : Cells) (el : c ≡ inset ctx) (ec : cells ≡ cellsOf ctx (e .«min_x») (e .«min_y»)) where
+  abbrev run : Bool → List Point → List Point
+  run honor placed = passIn piece n c near cells anchor e honor (budget n) 0 placed
+
+  abbrev both : List Point
+  both = passes piece n ctx near anchor (e .«min_x») (e .«max_x») (e .«min_y») (e .«max_y»)
+
+  admits-is :
+      (honor : Bool) (placed : List Point) (p : Point)
+      → admitsIn piece c near cells honor placed p ≡ admits piece n ctx near anchor (e .«min_x») (e .«max_x») (e .«min_y») (e .«max_y») honor placed p
+  unfolding admits admitsIn apart keeps cellsOf
+  admits-is honor placed p = rw (el, ec)
+
+  pass-is :
+      (honor : Bool) (turns index : ℕ) (placed : List Point)
+      → passIn piece n c near cells anchor e honor turns index placed ≡ pass piece n ctx near anchor (e .«min_x») (e .«max_x») (e .«min_y») (e .«max_y») honor turns index placed
+  unfolding passIn pass candidate
+  pass-is honor zero index placed = refl
+  pass-is honor (suc turns) index placed =
+      let p = tried piece n c near cells anchor e index in
+      rw (pass-is honor turns (index + 1) (placedIf (admitsIn piece c near cells honor placed p) p placed), admits-is honor placed p)
+
+  -- what the definition picks from
+  abbrev honored : List Point
+  honored = pass piece n ctx near anchor (e .«min_x») (e .«max_x») (e .«min_y») (e .«max_y») true (budget n) 0 []
+
+  abbrev topped : List Point
+  topped = pass piece n ctx near anchor (e .«min_x») (e .«max_x») (e .«min_y») (e .«max_y») false (budget n) 0 honored
+
+  abbrev ends : Bool
+  ends = ctx .mode .«strict_obstacles» || eqb (length near) 0
+
+  pub strict-once : ctx .mode .«strict_obstacles» ≡ true → run true [] ≡ both
+  unfolding passes
+  strict-once h = pick-true honored topped ends (one (ctx .mode .«strict_obstacles») (eqb (length near) 0) h) (pass-is true (budget n) 0 [])
     where
-      grown : (b : Bool) (p : Point) (ps : List Point) → length ps < n → length (placedIf b p ps) ≤ n
-      grown true p ps h = simp length-append (omega arith)
-      grown false p ps h = omega arith
+      one : (s t : Bool) → s ≡ true → s || t ≡ true
+      one s t k = rw k
 
-  -- ---- both passes
-  pub once : (ctx .mode .«strict_obstacles» || eqb (length near) 0) ≡ true → go true (budget n) 0 [] ≡ passes piece n ctx near anchor min-x max-x min-y max-y
+  pub free-once : length near ≡ 0 → run true [] ≡ both
   unfolding passes
-  once h = rw h
+  free-once h = pick-true honored topped ends (other (ctx .mode .«strict_obstacles») (eqb (length near) 0) (eq-eqb (length near) 0 h)) (pass-is true (budget n) 0 [])
+    where
+      other : (s t : Bool) → t ≡ true → s || t ≡ true
+      other true t k = refl
+      other false t k = k
 
-  pub twice : (ctx .mode .«strict_obstacles» || eqb (length near) 0) ≡ false → go false (budget n) 0 (go true (budget n) 0 []) ≡ passes piece n ctx near anchor min-x max-x min-y max-y
+  pub twice : ctx .mode .«strict_obstacles» ≡ false → (length near ≡ 0 → ⊥) → run false (run true []) ≡ both
   unfolding passes
-  twice h = rw h
+  twice h k =
+      pick-false honored topped ends (neither (ctx .mode .«strict_obstacles») (eqb (length near) 0) h (ne-eqb (length near) 0 k))
+      (ap (run false) (pass-is true (budget n) 0 []) ∙ pass-is false (budget n) 0 honored)
+    where
+      neither : (s t : Bool) → s ≡ false → t ≡ false → s || t ≡ false
+      neither s t l m = rw (l, m)
 
 -- ---- a lone mark's anchor
 module _ (poi : Point) (piece : Piece) (n : ℕ) (ctx : PackCtx) (obstacles : List Rectangle) where

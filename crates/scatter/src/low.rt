@@ -9,8 +9,8 @@ ghost use Rattle.glyphs.specs.Rect.{rectangles};
 ghost use Rattle.glyphs.specs.Spots.{flat, spotsOf, putSpot};
 ghost use Rattle.regions.specs.Margin.{marginOf};
 ghost use Rattle.regions.specs.Ring.{sum, pieceOf};
-ghost use Rattle.scatter.specs.LowDiscrepancy.{budget, firstOr, haltonPoint, pass, passes, packScatter, loneAnchor};
-ghost use Rattle.scatter.specs.Passes.{admitsIn};
+ghost use Rattle.scatter.specs.LowDiscrepancy.{budget, firstOr, haltonPoint, passes, packScatter, loneAnchor};
+ghost use Rattle.scatter.specs.Passes.{admitsIn, passIn};
 use crate::cells::Cells;
 use crate::cells::home;
 use crate::cells::is_hinted;
@@ -132,17 +132,16 @@ fn pass(
     sizes: &[usize],
     coords: &[f64],
     n: usize,
-    ctx: PackCtx,
+    margin: Margin,
     near: &[f64],
+    cells: Cells,
     start: usize,
     hints: &mut [usize; 4096],
     spots: &mut [f64],
 ) -> usize
-    requires { ⌜ (0 < length (now sizes)) × (sum (now sizes) * 2 ≤ length (now coords)) × (start ≤ n) × (n * 2 ≤ length (now spots)) ⌝ }
-    ensures { λ r. ⌜ (r ≡ length (pass (pieceOf (now (sizes .entry)) (now (coords .entry))) n ctx (rectangles (now (near .entry))) anchor (e .«min_x») (e .«max_x») (e .«min_y») (e .«max_y») honor (budget n) 0 (take start (spotsOf (now (spots .entry)))))) × (now (spots .exit) ≡ written (flat (pass (pieceOf (now (sizes .entry)) (now (coords .entry))) n ctx (rectangles (now (near .entry))) anchor (e .«min_x») (e .«max_x») (e .«min_y») (e .«max_y») honor (budget n) 0 (take start (spotsOf (now (spots .entry)))))) (now (spots .entry))) ⌝ }
+    requires { ⌜ (0 < length (now sizes)) × (sum (now sizes) * 2 ≤ length (now coords)) × (margin ≡ marginOf (margin .least)) × (start ≤ n) × (n * 2 ≤ length (now spots)) ⌝ }
+    ensures { λ r. ⌜ (r ≡ length (passIn (pieceOf (now (sizes .entry)) (now (coords .entry))) n (margin .least) (rectangles (now (near .entry))) cells anchor e honor (budget n) 0 (take start (spotsOf (now (spots .entry)))))) × (now (spots .exit) ≡ written (flat (passIn (pieceOf (now (sizes .entry)) (now (coords .entry))) n (margin .least) (rectangles (now (near .entry))) cells anchor e honor (budget n) 0 (take start (spotsOf (now (spots .entry)))))) (now (spots .entry))) ⌝ }
 {
-    let margin = Margin::of(ctx.inset());
-    let cells = Cells::of(ctx, e.min_x, e.min_y);
     let turns = budget(n);
     let mut placed = start;
     let mut index = 0;
@@ -200,6 +199,8 @@ fn passes(
     requires { ⌜ (0 < length (now sizes)) × (sum (now sizes) * 2 ≤ length (now coords)) × (n * 2 ≤ length (now spots)) ⌝ }
     ensures { λ r. ⌜ (r ≡ length (passes (pieceOf (now (sizes .entry)) (now (coords .entry))) n ctx (rectangles (now (near .entry))) anchor (e .«min_x») (e .«max_x») (e .«min_y») (e .«max_y»))) × (now (spots .exit) ≡ written (flat (passes (pieceOf (now (sizes .entry)) (now (coords .entry))) n ctx (rectangles (now (near .entry))) anchor (e .«min_x») (e .«max_x») (e .«min_y») (e .«max_y»))) (now (spots .entry))) ⌝ }
 {
+    let margin = Margin::of(ctx.inset());
+    let cells = Cells::of(ctx, e.min_x, e.min_y);
     let mut hints = [0; 4096];
     let first = pass(
         true,
@@ -208,8 +209,9 @@ fn passes(
         sizes,
         coords,
         n,
-        ctx,
+        margin,
         near,
+        cells,
         0,
         &mut hints,
         &mut spots[..],
@@ -227,8 +229,9 @@ fn passes(
         sizes,
         coords,
         n,
-        ctx,
+        margin,
         near,
+        cells,
         first,
         &mut hints,
         &mut spots[..],

@@ -34,7 +34,7 @@ returns-4 : tie.Need-returns-4
 returns-4 c =
     let spaced = c .before .before in
     let cleared = spaced .before .before in
-    let a = cleared  .before .before .before .before .before .before .before .before .args in
+    let a = cleared .before .before .before .before .before .before .before .before .args in
     let e = spaced .before .keeps-all in
     let f = cleared .before .clears in
     c .clear-of-obstacles .ensures
@@ -45,7 +45,7 @@ returns-5 : tie.Need-returns-5
 returns-5 c =
     let spaced = c .before in
     let cleared = spaced .before .before in
-    let a = cleared  .before .before .before .before .before .before .before .before .args in
+    let a = cleared .before .before .before .before .before .before .before .before .args in
     let e = spaced .before .keeps-all in
     let f = cleared .before .clears in
     sym (past-obstacles (pieceOf (a .sizes .now) (a .coords .now)) (a .margin .least) (rectangles (a .near .now)) (a .cells) (a .honor) (spotsOf (a .placed .now)) (a .p)
