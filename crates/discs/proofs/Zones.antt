@@ -23,7 +23,8 @@ use Rattle.lattice.specs.declared.context.PackCtx.{PackCtx}
 use Rattle.discs.specs.declared.options.GlyphOptions.{GlyphOptions}
 use Rattle.discs.specs.declared.rows.Offsets.{Offsets}
 use Rattle.discs.specs.declared.rows.Row.{Row}
-use Rattle.discs.proofs.Turns.{rest-is, pieces-turn}
+use Rattle.discs.proofs.Turns.{pieces-turn}
+use Rattle.discs.proofs.Written.{rest-is}
 
 -- ---- one zone
 
@@ -135,7 +136,7 @@ module _ (s rings sizes : List ℕ) (coords : List Float) (quotas : List ℕ) (d
         (gap r-hi : Float) → z < n
         → foldl (loweredBy gap) r-hi (handedWork (handedFrom s rings sizes coords quotas deepest rows (n - z) z at))
         ≡ foldl (loweredBy gap) (lowering gap r-hi (handedAt s rings sizes coords quotas deepest (rowOf rows z) at))
-          (handedWork (handedFrom s rings sizes coords quotas deepest rows (n - (z + 1)) (z + 1) (pastRow rings sizes (rowOf rows z) at)))
+        (handedWork (handedFrom s rings sizes coords quotas deepest rows (n - (z + 1)) (z + 1) (pastRow rings sizes (rowOf rows z) at)))
     ceiling-turn gap r-hi h = rw (handed-turn h) (fold-work gap r-hi (handedAt s rings sizes coords quotas deepest (rowOf rows z) at) _)
       where
         go : (gap r-hi : Float) (b : Bool) (x : Handed) (xs : List Handed)

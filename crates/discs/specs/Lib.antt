@@ -1,5 +1,7 @@
 pub mod Region
 pub mod Pieces
+pub mod PieceLaws
+pub mod Joined
 pub mod Radius
 pub mod PlaceGlyphs
 pub mod Floor

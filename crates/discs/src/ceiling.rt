@@ -70,7 +70,10 @@ fn lowered(gap: f64, n: usize, r_hi: f64, area: f64, found: Deepest) -> f64
         Deepest::Full => r_hi,
         Deepest::Found(_, _, clearance) => {
             let by_clearance = float::min(r_hi, clearance / (1.0 + gap));
-            float::min(by_clearance, float::root(area / (n as f64 * 3.141592653589793)))
+            float::min(
+                by_clearance,
+                float::root(area / (n as f64 * 3.141592653589793)),
+            )
         }
     }
 }

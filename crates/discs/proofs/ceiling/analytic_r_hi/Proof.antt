@@ -66,8 +66,8 @@ returns c =
     let l = c .before .before .loop in
     let a = c .before .before .before .before .before .before .before .before .args in
     λ s quotas.
-        c .if-positive .ensures
-        ∙ ap ifPositive (sym (l .inv .2 s quotas ∙ rw (handed-end s (a .rings .now) (a .sizes .now) (a .coords .now) quotas (a .deepest .now) (a .rows .now) (l .z) (a .n) (l .at) (c .before .loop-test .left))))
+    c .if-positive .ensures
+    ∙ ap ifPositive (sym (l .inv .2 s quotas ∙ rw (handed-end s (a .rings .now) (a .sizes .now) (a .coords .now) quotas (a .deepest .now) (a .rows .now) (l .z) (a .n) (l .at) (c .before .loop-test .left))))
 
 pub analytic-r-hi-spec : {M : Type 1} → statement M
 analytic-r-hi-spec =

@@ -6,7 +6,7 @@ use native.Mathlib.Omega.{arith}
 use lib.ListN.{take, drop, length-drop}
 use Rattle.regions.specs.Ring.{sum}
 use Rattle.discs.specs.Floor.{cut, pastRow}
-use Rattle.discs.proofs.Turns.{rest-is}
+use Rattle.discs.proofs.Written.{rest-is}
 use Rattle.discs.proofs.Zones.{part-is, laid-rings, laid-coords}
 use borrow.Author.Needs.{needs}
 use Rattle.discs.proofs.rows.past_row.Statement.{statement}

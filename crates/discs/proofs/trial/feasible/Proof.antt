@@ -24,7 +24,7 @@ Inv-loop r numbers options obstacles s n rows rings sizes coords quotas deepest 
     × (length flags ≡ length flags₀)
     × (length spots ≡ length spots₀)
     × (handedFeasible numbers options (workIn s n rows rings sizes coords quotas deepest) (rectangles obstacles) r
-      ≡ all (holdsAll numbers options (contextAt options probe r) (rectangles obstacles)) (handedWork (handedFrom s rings sizes coords quotas deepest rows (n - z) z at)))
+    ≡ all (holdsAll numbers options (contextAt options probe r) (rectangles obstacles)) (handedWork (handedFrom s rings sizes coords quotas deepest rows (n - z) z at)))
 
 abbrev μ-loop : tie.MeasureT-loop
 μ-loop r numbers options obstacles s n rows rings sizes coords quotas deepest near₀ second₀ flags₀ spots₀ ctx at₀ z₀ near second flags spots at z = n - z

@@ -7,7 +7,7 @@ use native.Mathlib.Omega.{arith}
 use borrow.Author.Tests.{not-true, not-false}
 use Rattle.discs.specs.Floor.{handedAt, packHanded, holdsAll}
 use Rattle.discs.specs.Walk.{holding}
-use Rattle.discs.proofs.Turns.{rest-is}
+use Rattle.discs.proofs.Written.{rest-is}
 use Rattle.discs.proofs.Zones.{part-is, left-in, laid-parts, lent-parts, points-part}
 use borrow.Author.Needs.{needs}
 use Rattle.discs.proofs.trial.holds.Statement.{statement}
