@@ -6,3 +6,4 @@ pub mod Radius
 pub mod PlaceGlyphs
 pub mod Floor
 pub mod Walk
+pub mod FloorLaws
