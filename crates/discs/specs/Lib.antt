@@ -5,5 +5,6 @@ pub mod Joined
 pub mod Radius
 pub mod PlaceGlyphs
 pub mod Floor
+pub mod FloorLaws
 pub mod Walk
 pub mod Searches
