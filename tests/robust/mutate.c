@@ -45,9 +45,10 @@ static void put(uint8_t *at, size_t size, uint64_t value) {
 
 /* A number at or beside a limit, a small one, or any. */
 static uint64_t telling(void) {
-    static const int64_t limits[] = {0,     1,     2,     3,       4,       5,        8,        9,         10,        16,       17,
-                                     32,    33,    64,    65,      255,     256,      257,      1024,      2000,      2001,     16384,
-                                     16385, 65535, 65536, 1048576, 1048577, -1048576, -1048577, INT32_MAX, INT32_MIN, UINT32_MAX};
+    static const int64_t limits[] = {
+        0, 1, 2, 3, 4, 5, 8, 9, 10, 16, 17, 32, 33, 64, 65, 255, 256, 257, 1024, 2000, 2001, 16384, 16385, 65535, 65536,
+        1048576, 1048577, -1048576, -1048577, INT32_MAX, INT32_MIN, UINT32_MAX,
+    };
     switch (below(4)) {
     case 0: return below(3000);
     case 1: return bits();

@@ -4,6 +4,7 @@
 #include "lent.h"
 #include "marks.h"
 #include "mutate.h"
+#include <inttypes.h>
 #include <signal.h>
 #include <stdio.h>
 #include <stdlib.h>
@@ -153,7 +154,7 @@ static int try_one(uint64_t n, unsigned seconds) {
     }
     if (what != NULL) {
         keep("wrong");
-        printf("robust: job %llu, kept as %s/wrong.job: %s is wrong\n", (unsigned long long)n, folder, what);
+        printf("robust: job %" PRIu64 ", kept as %s/wrong.job: %s is wrong\n", n, folder, what);
         return 0;
     }
     counts[*(uint32_t *)numbers.at]++;
@@ -175,9 +176,8 @@ int main(int argc, char **argv) {
     catch_signals();
     for (uint64_t n = 0; n < total; n++)
         if (!try_one(n, seconds)) return 1;
-    printf("robust: %llu damaged jobs as they must be: %llu sheets; refused", (unsigned long long)total,
-           (unsigned long long)counts[0]);
-    for (int k = 1; k <= MOST_NUMBER; k++) printf(" %d: %llu%s", k, (unsigned long long)counts[k], k < MOST_NUMBER ? "," : "");
+    printf("robust: %" PRIu64 " damaged jobs as they must be: %" PRIu64 " sheets", total, counts[0]);
+    for (int k = 1; k <= MOST_NUMBER; k++) printf(", %d: %" PRIu64, k, counts[k]);
     printf("; slowest %.0f ms\n", slowest);
     return 0;
 }
