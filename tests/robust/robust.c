@@ -1,4 +1,4 @@
-/* Damaged jobs through the call: no crash, no hang, and every lent byte as the papers say.
+/* Damaged jobs through the call: no crash, no hang, and every lent byte as its contract says.
    robust JOBS SEED SECONDS FOLDER FILE..
    A job that crashes, takes over SECONDS or is answered wrongly is kept in FOLDER, and so is the slowest. */
 #include "lent.h"
