@@ -35,6 +35,32 @@ pub extern "C" fn probe_clearance_at_least(
     regions::margin::clearance_at_least(x, y, sizes, coords, c)
 }
 
+fn one_if(b: bool) -> u64
+    ensures { λ r. ⌜ r ≤ 1 ⌝ }
+{
+    if b {
+        return 1;
+    }
+    0
+}
+
+// How many of the places, x and y in turn, have a clearance of at least c.
+#[no_mangle]
+pub extern "C" fn probe_count_clear(sizes: &[usize], coords: &[f64], places: &[f64], c: f64) -> u64
+    requires { ⌜ (0 < length (now sizes)) × (sum (now sizes) * 2 ≤ length (now coords)) ⌝ }
+{
+    let margin = regions::margin::Margin::of(c);
+    let n = places.len() / 2;
+    let mut many = 0u64;
+    let mut k = 0;
+    while k < n {
+        let p = glyphs::spots::spot(places, k);
+        many = many + one_if(regions::margin::clears(p.x, p.y, sizes, coords, margin));
+        k += 1;
+    }
+    many
+}
+
 #[no_mangle]
 pub extern "C" fn probe_point_in_polygon(ring: &[f64], x: f64, y: f64) -> u8 {
     if regions::inside::point_in_polygon(x, y, ring) {

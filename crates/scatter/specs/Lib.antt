@@ -1,2 +1,4 @@
+pub mod Darts
+pub mod Front
 pub mod LowDiscrepancy
 pub mod Random

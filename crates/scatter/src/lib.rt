@@ -1,1 +1,2 @@
 // discs.rs: the low-discrepancy and the random packer.
+pub mod random;
