@@ -1,4 +1,4 @@
-//! The random packer with its relaxation, and the relaxation alone, on one zone, beside the Rust original.
+//! The random packer without and with its relaxation, and the relaxation alone, on one zone, beside the Rust original.
 use bench::{Bits, line, star, time};
 use oracle::judge;
 use oracle::plotting::glyphs::GlyphArrangement;
@@ -40,6 +40,7 @@ unsafe extern "C" {
 }
 
 const EDGES: usize = 16;
+const ATTEMPTS: u32 = 200;
 
 fn flat(spots: &[oracle::geometry::primitives::Point]) -> Vec<f64> {
     spots.iter().flat_map(|p| [p.x(), p.y()]).collect()
@@ -59,7 +60,7 @@ fn main() {
             arrangement: GlyphArrangement::Random,
             quota,
             precision: 1.0,
-            attempts: 200,
+            attempts: ATTEMPTS,
             radius,
             gap: 0.0,
             boundary_gap: 0.0,
@@ -69,42 +70,43 @@ fn main() {
             state,
         };
         let settings = [radius, 0.0, 0.0, 1.0];
-        let rust = |state: u64| layers::pack_piece(&piece, &packing(state, true));
-        let ours = |state: u64| {
-            let (mut first, mut second) = (vec![0.0; 8_000], vec![0.0; 8_000]);
-            let (mut spots, mut state) = (vec![0.0; 2 * quota], state);
-            let placed = unsafe {
-                probe_pack_random(
-                    sizes.as_ptr(),
-                    1,
-                    coords.as_ptr(),
-                    coords.len(),
-                    [0.0; 0].as_ptr(),
-                    0,
-                    settings.as_ptr(),
-                    quota as u64,
-                    200,
-                    1,
-                    0,
-                    &mut state,
-                    first.as_mut_ptr(),
-                    first.len(),
-                    second.as_mut_ptr(),
-                    second.len(),
-                    spots.as_mut_ptr(),
-                    spots.len(),
-                )
-            };
-            spots.truncate(2 * placed as usize);
-            (spots, state)
-        };
         let states: Vec<u64> = (0..3).map(|_| bits.draw()).collect();
-        assert!(states.iter().all(|&s| {
-            let (spots, state) = rust(s);
-            (flat(&spots), state) == ours(s)
-        }));
-        line(&format!("random, {quota} marks"), time(&states, rust), time(&states, ours));
-
+        for (name, spread) in [("thrown", false), ("random", true)] {
+            let rust = |state: u64| layers::pack_piece(&piece, &packing(state, spread));
+            let ours = |state: u64| {
+                let (mut first, mut second) = (vec![0.0; 8_000], vec![0.0; 8_000]);
+                let (mut spots, mut state) = (vec![0.0; 2 * quota], state);
+                let placed = unsafe {
+                    probe_pack_random(
+                        sizes.as_ptr(),
+                        1,
+                        coords.as_ptr(),
+                        coords.len(),
+                        [0.0; 0].as_ptr(),
+                        0,
+                        settings.as_ptr(),
+                        quota as u64,
+                        ATTEMPTS,
+                        spread.into(),
+                        0,
+                        &mut state,
+                        first.as_mut_ptr(),
+                        first.len(),
+                        second.as_mut_ptr(),
+                        second.len(),
+                        spots.as_mut_ptr(),
+                        spots.len(),
+                    )
+                };
+                spots.truncate(2 * placed as usize);
+                (spots, state)
+            };
+            assert!(states.iter().all(|&s| {
+                let (spots, state) = rust(s);
+                (flat(&spots), state) == ours(s)
+            }));
+            line(&format!("{name}, {quota} marks"), time(&states, rust), time(&states, ours));
+        }
         let (thrown, _) = layers::pack_piece(&piece, &packing(states[0], false));
         let rust = |spacing: f64| {
             let mut spots = thrown.clone();
