@@ -1,8 +1,7 @@
 //! Clearances and deepest points on rings of several sizes, beside the Rust original.
-use bench::{Bits, line, time};
+use bench::{Bits, line, star, time};
 use oracle::judge;
 use oracle::plotting::glyphs::discs::layers;
-use std::f64::consts::TAU;
 
 unsafe extern "C" {
     fn probe_signed_clearance(
@@ -40,16 +39,6 @@ unsafe extern "C" {
         cells: *mut f64,
         cell_floats: usize,
     ) -> f64;
-}
-
-/// A star of n vertices, in 1/1024, of radius up to 10.
-fn star(n: usize, bits: &mut Bits) -> Vec<[i32; 2]> {
-    (0..n)
-        .map(|k| {
-            let (r, a) = (10240.0 * (0.8 + 0.2 * bits.unit()), TAU * k as f64 / n as f64);
-            [(r * a.cos()) as i32, (r * a.sin()) as i32]
-        })
-        .collect()
 }
 
 fn main() {

@@ -12,6 +12,9 @@ ghost use Rattle.regions.specs.Inside.{pointInPolygon};
 ghost use Rattle.relax.specs.Scatter.{source, relaxScatter};
 use deepest::search::Deepest;
 use glyphs::bounds::Bounds;
+use glyphs::mode::PackMode;
+use glyphs::stream::Stream;
+use lattice::context::PackCtx;
 
 #[no_mangle]
 pub extern "C" fn probe_signed_clearance(sizes: &[usize], coords: &[f64], x: f64, y: f64) -> f64
@@ -125,6 +128,54 @@ pub extern "C" fn probe_obstacles_near(
         k += 1;
     }
     many
+}
+
+// At most 64 obstacles, with the source's numbers.
+#[no_mangle]
+pub extern "C" fn probe_pack_random(
+    sizes: &[usize],
+    coords: &[f64],
+    obstacles: &[f64],
+    settings: &[f64; 4],
+    quota: u64,
+    attempts: u32,
+    spread: u8,
+    strict: u8,
+    state: &mut u64,
+    first: &mut [f64],
+    second: &mut [f64],
+    spots: &mut [f64],
+) -> u64
+    requires { ⌜ (0 < length (now sizes)) × (sum (now sizes) * 2 ≤ length (now coords)) × (length (now obstacles) ≤ 256) × (quota ≤ length (now first)) × (quota ≤ length (now second)) × (quota * 2 ≤ length (now spots)) ⌝ }
+{
+    let mode = PackMode {
+        spread: spread == 1,
+        strict_obstacles: strict == 1,
+    };
+    let ctx = PackCtx {
+        r: settings[0],
+        gap: settings[1],
+        boundary_gap: settings[2],
+        mode,
+    };
+    let rng = Stream { state: *state };
+    let mut near = [0.0; 256];
+    let taken = scatter::random::pack_random_piece(
+        relax::Spreading::SOURCE,
+        sizes,
+        coords,
+        quota as usize,
+        attempts,
+        ctx,
+        obstacles,
+        rng,
+        &mut near[..],
+        first,
+        second,
+        spots,
+    );
+    *state = taken.rng.state;
+    taken.count as u64
 }
 
 // The marks, at most 2,000, with the source's numbers.
