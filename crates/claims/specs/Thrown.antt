@@ -21,7 +21,8 @@ use Rattle.regions.specs.Clearance.{signedClearance}
 use Rattle.lattice.specs.declared.context.PackCtx.{PackCtx}
 use Rattle.lattice.specs.Context.{inset, spacing}
 use Rattle.lattice.specs.Escape.{point, squaredDistance}
-use Rattle.scatter.specs.LowDiscrepancy.{Anchor, budget, candidate, apart, admits, pass, passes}
+use Rattle.scatter.specs.declared.low.Anchor.{Anchor}
+use Rattle.scatter.specs.LowDiscrepancy.{budget, candidate, apart, admits, pass, passes}
 use Rattle.scatter.specs.Random.{Thrown, Dart, hit, miss, afterDart, lands, throw, glyphs, throws}
 use Rattle.claims.specs.Walk.{Inset, Unblocked}
 
