@@ -1,3 +1,6 @@
 pub mod Region
 pub mod Radius
 pub mod PlaceGlyphs
+pub mod Pieces
+pub mod PieceLaws
+pub mod Joined

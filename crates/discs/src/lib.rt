@@ -1,2 +1,4 @@
 // discs.rs: regions over their pieces, the radius, and all marks.
 pub mod options;
+pub mod piece;
+pub mod region;

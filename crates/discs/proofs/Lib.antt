@@ -1,0 +1,3 @@
+mod Packed
+mod Turns
+mod Written
