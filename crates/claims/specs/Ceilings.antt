@@ -1,10 +1,10 @@
 -- The ceiling of a job's radius is 1,031 at most.
 -- Rests on the bound of a deepest point's clearance: a zone's bound is no more than that.
-use mathlib.Core.Path.{_≡_, refl, sym, subst}
+use mathlib.Core.Path.{_≡_, refl, subst}
 use mathlib.Core.Logic.{_⊎_, inl, inr}
 use mathlib.Core.Bool.{Bool, true, false, cond, _&&_}
 use mathlib.Core.List.{List, [], _∷_, foldl}
-use Prim.Native.Nat.{ℕ, _+_, _*_, _≤_, _<_}
+use Prim.Native.Nat.{ℕ, _*_, _≤_}
 use native.Mathlib.Omega.{arith}
 use lib.Dec.{T, lit<, lit≤}
 use lib.Ieee.{Float, binary64, fits, lt, ofBits}
@@ -12,27 +12,25 @@ use lib.Ieee.Fits.{and-l, and-r, div-fits}
 use lib.Ieee.Bits.{ofBits-fits}
 use Rattle.laws.specs.Every.{Every}
 use Rattle.laws.specs.Truth.{yes}
-use Rattle.float.specs.Ops.{_+ᶠ_, _*ᶠ_, _/ᶠ_, _≤ᶠ_, _<ᶠ_, _>ᶠ_, 0ᶠ, -0ᶠ, 1ᶠ, ∞}
-use Rattle.float.specs.Order.{abs, min, sqrt}
-use Rattle.float.specs.Whole.{as-f64}
+use Rattle.float.specs.Ops.{_+ᶠ_, _/ᶠ_, _≤ᶠ_, _>ᶠ_, 0ᶠ, 1ᶠ, ∞}
+use Rattle.float.specs.Order.{abs, min}
 use Rattle.float.specs.Laws.Fits.{rootOf-fits}
 use Rattle.float.specs.Laws.Order.{min-fits, min-number-r, min-le-l, min-le-r}
 use Rattle.float.specs.Laws.Compare.{le-trans, lt-le}
-use Rattle.rounding.specs.Signed.{signed, nat, plain, _≼_}
+use Rattle.rounding.specs.Signed.{signed, plain, _≼_}
 use Rattle.rounding.specs.Value.{U, sgn, mag, val, digits-whole}
 use Rattle.rounding.specs.Comparison.{le→≼}
 use Rattle.rounding.specs.Errors.{add-of-finite}
 use Rattle.rounding.specs.Bounds.{Sized, wider, add-sized, div-sized-by, ranged}
 use Rattle.rounding.specs.Signs.{Nonneg, zero-num, zero-val, zero-sized}
 use Rattle.glyphs.specs.Rect.{isFinite}
-use Rattle.regions.specs.Ring.{Piece}
 use Rattle.regions.specs.Sizes.{sized-number}
 use Rattle.format.specs.Known.{All, PieceKnown}
 use Rattle.deepest.specs.declared.search.Deepest.{Deepest}
 use Rattle.deepest.specs.declared.search.Deepest.the-variants.{Found, Nothing, Full}
 use Rattle.deepest.specs.Deepest.{poiWithHoles}
-use Rattle.discs.specs.Region.{Zone, areas}
-use Rattle.discs.specs.Radius.{Chosen, none, some, π, lowered, analyticRHi}
+use Rattle.discs.specs.Region.{Zone}
+use Rattle.discs.specs.Radius.{none, some, lowered, analyticRHi}
 use Rattle.claims.specs.Deepest.{OfFound, Deep, poi-deep}
 
 -- ---- 1 + gap

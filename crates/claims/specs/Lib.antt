@@ -1,7 +1,6 @@
 pub mod Apart
 pub mod Beside
 pub mod Bounded
-pub mod Boxed
 pub mod Ceilings
 pub mod Chosen
 pub mod Closeness
