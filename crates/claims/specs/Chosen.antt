@@ -76,7 +76,7 @@ module _ (k : ℕ) (big : 1024 ≤ k) where
   zero-fine : Fine k 0ᶠ
   zero-fine = inl zero-mag
 
-  stated-fine : (r : Float) → Shared 1048576 r → Fine k r
+  pub stated-fine : (r : Float) → Shared 1048576 r → Fine k r
   stated-fine r s = rw (s .is) (share-fine (s .number) (s .few))
 
   -- where no zone is left in

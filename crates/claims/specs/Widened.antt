@@ -22,7 +22,7 @@ use Rattle.glyphs.specs.declared.rect.Rectangle.{Rectangle}
 use Rattle.regions.specs.Ring.{Piece}
 use Rattle.lattice.specs.declared.context.PackCtx.{PackCtx}
 use Rattle.lattice.specs.Uniform.{1e-3ᶠ, fitsAt, widen}
-use Rattle.claims.specs.Apart.{Apart}
+use Rattle.claims.specs.Kept.{Apart}
 use Rattle.claims.specs.Middle.{Middle, middle, middle-between}
 
 -- ---- a bisection

@@ -1,6 +1,7 @@
 pub mod Region
 pub mod Radius
 pub mod PlaceGlyphs
+pub mod Floor
 pub mod Pieces
 pub mod PieceLaws
 pub mod Joined

@@ -2,3 +2,4 @@
 pub mod options;
 pub mod piece;
 pub mod region;
+pub mod rows;
