@@ -1,7 +1,8 @@
 pub mod Region
-pub mod Radius
-pub mod PlaceGlyphs
-pub mod Floor
 pub mod Pieces
 pub mod PieceLaws
 pub mod Joined
+pub mod Radius
+pub mod PlaceGlyphs
+pub mod Floor
+pub mod Walk

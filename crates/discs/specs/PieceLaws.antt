@@ -1,6 +1,6 @@
 -- A zone packed from deepest points that are handed in is the definition's zone, where those that are needed are the pieces' own; and what each piece has.
 -- Rests on the definitions alone.
-use Prim.Native.Nat.{ℕ, zero, suc, _<_}
+use Prim.Native.Nat.{ℕ, zero, suc, _<_, _≤_}
 use mathlib.Core.Path.{_≡_, refl, sym, ap, _∙_}
 use mathlib.Core.Bool.{Bool, true, false, cond, _&&_}
 use mathlib.Core.List.{List, [], _∷_}
@@ -159,3 +159,13 @@ module _ (room : ℕ) (numbers : Spreading) (options : GlyphOptions) (ctx : Pack
   piece-at (piece ∷ pieces) (found ∷ deepests) (quota ∷ quotas) rng zero h = (rng, refl)
   piece-at (piece ∷ pieces) (found ∷ deepests) (quota ∷ quotas) rng (suc i) h =
       piece-at pieces deepests quotas (packQuota numbers options ctx obstacles found piece quota rng .rng) i (omega arith)
+
+  pub length-packed :
+      (pieces : List Piece) (deepests : List Deepest) (quotas : List ℕ) (rng : Stream) → length pieces ≤ length deepests → length pieces ≤ length quotas
+      → length (packPiecesFrom numbers options ctx obstacles pieces deepests quotas rng) ≡ length pieces
+  unfolding packPiecesFrom
+  length-packed [] deepests quotas rng d q = refl
+  length-packed (piece ∷ pieces) [] quotas rng d q = absurd (omega arith)
+  length-packed (piece ∷ pieces) (found ∷ deepests) [] rng d q = absurd (omega arith)
+  length-packed (piece ∷ pieces) (found ∷ deepests) (quota ∷ quotas) rng d q =
+      ap suc (length-packed pieces deepests quotas (packQuota numbers options ctx obstacles found piece quota rng .rng) (omega arith) (omega arith))

@@ -100,15 +100,8 @@ fn pack_low_discrepancy(
             spots,
         );
     };
-    let anchor = lone_anchor(
-        Point { x, y },
-        sizes,
-        coords,
-        n,
-        ctx,
-        obstacles,
-        &mut near[..],
-    );
+    let poi = Point { x, y };
+    let anchor = lone_anchor(poi, sizes, coords, n, ctx, obstacles, &mut near[..]);
     pack_low_discrepancy_piece(anchor, sizes, coords, n, ctx, obstacles, near, spots)
 }
 

@@ -5,3 +5,4 @@ pub mod LowDiscrepancy
 pub mod Passes
 pub mod Placed
 pub mod Random
+pub mod Darts
