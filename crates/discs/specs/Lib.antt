@@ -4,3 +4,4 @@ pub mod PlaceGlyphs
 pub mod Pieces
 pub mod PieceLaws
 pub mod Joined
+pub mod FlatPieces

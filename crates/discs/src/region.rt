@@ -19,7 +19,7 @@ use lattice::context::PackCtx;
 use relax::Spreading;
 
 // How many coordinates a piece has.
-fn coords_in(sizes: &[usize], coords: &[f64]) -> usize
+pub fn coords_in(sizes: &[usize], coords: &[f64]) -> usize
     requires { ⌜ sum (now sizes) * 2 ≤ length (now coords) ⌝ }
     ensures { λ r. ⌜ r ≡ sum (now (sizes .entry)) * 2 ⌝ }
 {
