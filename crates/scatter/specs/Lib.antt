@@ -5,4 +5,3 @@ pub mod LowDiscrepancy
 pub mod Passes
 pub mod Placed
 pub mod Random
-pub mod Darts
