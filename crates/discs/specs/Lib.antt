@@ -7,3 +7,4 @@ pub mod PlaceGlyphs
 pub mod Floor
 pub mod Walk
 pub mod FlatPieces
+pub mod FloorLaws
