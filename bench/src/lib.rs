@@ -1,4 +1,4 @@
-//! What the programs share: random bits, a piece, and the time of a call.
+//! What the programs share: random bits, a ring, and the time of a call.
 use std::f64::consts::TAU;
 use std::hint::black_box;
 use std::time::Instant;

@@ -9,8 +9,8 @@ use native.Mathlib.Omega.{arith}
 use borrow.Author.Tests.{eq-eqb, ne-eqb, leb-false}
 use denote.Enum.Declared.{tagOf}
 use types.Run.{OneOf}
-use lib.Dec.{eqb, leb, ltb}
-use lib.ListN.{length, take, length-take}
+use lib.Dec.{leb, ltb}
+use lib.ListN.{length, length-take}
 use lib.Ieee.{Float}
 use Rattle.laws.specs.Lists.{written}
 use Rattle.glyphs.specs.Spots.{flat, length-flat}

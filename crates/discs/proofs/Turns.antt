@@ -1,6 +1,6 @@
 -- A turn of the loop over a zone's pieces: what is left to pack, where it lies, and where its spots go.
 -- Rests on the kit's laws of lists.
-use Prim.Native.Nat.{ℕ, zero, suc, _+_, _-_, _*_, _<_, _≤_}
+use Prim.Native.Nat.{ℕ, _+_, _-_, _*_, _<_, _≤_}
 use mathlib.Core.Path.{_≡_, refl, sym, ap, _∙_}
 use mathlib.Core.Bool.{true}
 use mathlib.Core.List.{List, [], _∷_, _++_, flatten}

@@ -1,6 +1,6 @@
 -- The spots of all pieces of a zone, end to end and flat.
 -- Rests on the laws of marks as coordinates.
-use Prim.Native.Nat.{ℕ, _*_}
+use Prim.Native.Nat.{_*_}
 use mathlib.Core.Path.{_≡_, refl, ap}
 use mathlib.Core.List.{List, [], _∷_, _++_, flatten}
 use native.Mathlib.Omega.{arith}

@@ -5,6 +5,7 @@ pub mod Joined
 pub mod Radius
 pub mod PlaceGlyphs
 pub mod Floor
-pub mod FloorLaws
 pub mod Walk
+pub mod FlatPieces
+pub mod FloorLaws
 pub mod Searches

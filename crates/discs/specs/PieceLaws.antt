@@ -29,7 +29,7 @@ use Rattle.scatter.specs.LowDiscrepancy.{loneAnchor, packWithin, packScatter}
 use Rattle.scatter.specs.Random.{Thrown}
 use Rattle.scatter.specs.declared.low.Anchor.{Anchor}
 use Rattle.scatter.specs.declared.low.Anchor.the-variants.{Nowhere}
-use Rattle.discs.specs.Region.{Zone, quotas, deepestOf, packUniformPiece, packLowDiscrepancyPiece, packPiece, packPieces, packRegion}
+use Rattle.discs.specs.Region.{Zone, quotas, deepestOf, packLowDiscrepancyPiece, packPiece, packPieces, packRegion}
 use Rattle.discs.specs.Pieces.{packPieceFrom, packQuota, packPiecesFrom}
 use Rattle.discs.specs.declared.options.GlyphOptions.{GlyphOptions}
 

@@ -1,10 +1,10 @@
 -- The spacing test of low discrepancy by what it reads: the cells that spots are kept in, by the ranks of their numbers. Definitions for the code, with their laws.
 -- Rests on the laws of ranks.
-use mathlib.Core.Path.{_≡_, refl, sym, ap, _∙_}
-use mathlib.Core.Logic.{_⊎_, inl, inr, ⊎-elim}
+use mathlib.Core.Path.{_≡_, refl, sym, _∙_}
+use mathlib.Core.Logic.{_⊎_, inl, inr}
 use mathlib.Core.Bool.{Bool, true, false, not, _&&_, _||_}
 use mathlib.Core.List.{List, [], _∷_}
-use Prim.Native.Nat.{ℕ, zero, suc, _+_, _-_, _≤_, _<_}
+use Prim.Native.Nat.{ℕ, zero, suc, _-_, _≤_, _<_}
 use native.Mathlib.Omega.{arith}
 use borrow.Author.Tests.{eqb-true, eqb-false, eq-eqb, ne-eqb, le-leb, lt-leb}
 use lib.Dec.{eqb, leb}
@@ -15,7 +15,6 @@ use Rattle.laws.specs.Any.{all}
 use Rattle.laws.specs.Orders.{lt-or-le}
 use Rattle.float.specs.Ops.{_*ᶠ_, _≥ᶠ_, ε}
 use Rattle.float.specs.Order as Float
-use Rattle.float.specs.Whole.{as-i64}
 use Rattle.glyphs.specs.declared.rect.Point.{Point}
 use Rattle.glyphs.specs.Spots as Spots
 use Rattle.lattice.specs.Context.{spacing}

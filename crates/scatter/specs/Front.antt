@@ -1,6 +1,6 @@
 -- Marks at the front of a slice, x and y in turn: read back, put one behind another, and written over.
 -- Rests on the laws of marks as coordinates.
-use mathlib.Core.Path.{_≡_, refl, sym, ap, _∙_}
+use mathlib.Core.Path.{_≡_, sym, ap, _∙_}
 use mathlib.Core.List.{List, [], _∷_, _++_, append-assoc}
 use Prim.Native.Nat.{ℕ, _+_, _-_, _*_, _≤_, _<_}
 use native.Mathlib.Omega.{arith}

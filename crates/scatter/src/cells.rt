@@ -72,6 +72,7 @@ fn neighbours(cells: Cells, p: Point, q: Point) -> bool
     beside_x & beside_y
 }
 
+// Whether `p` keeps the spacing from a spot, or the spot is in none of the nine cells around its own.
 fn keeps(cells: Cells, p: Point, q: Point) -> bool
     ensures { λ r. ⌜ r ≡ keeps cells p q ⌝ }
 {
@@ -81,7 +82,7 @@ fn keeps(cells: Cells, p: Point, q: Point) -> bool
     !neighbours(cells, p, q)
 }
 
-// Spot by spot.
+// The same for all spots, one by one.
 fn keeps_each(cells: Cells, p: Point, spots: &[f64]) -> bool
     ensures { λ r. ⌜ r ≡ all (keeps cells p) (spotsOf (now (spots .entry))) ⌝ }
 {
@@ -96,7 +97,7 @@ fn keeps_each(cells: Cells, p: Point, spots: &[f64]) -> bool
     true
 }
 
-// The eight spots from spot `k` on.
+// The same for the eight spots from spot `k` on.
 fn keeps_eight(cells: Cells, p: Point, spots: &[f64], k: usize) -> bool
     requires { ⌜ k + 8 ≤ length (now spots) / 2 ⌝ }
     ensures { λ r. ⌜ r ≡ all (keeps cells p) (take 8 (drop k (spotsOf (now (spots .entry))))) ⌝ }
@@ -109,7 +110,7 @@ fn keeps_eight(cells: Cells, p: Point, spots: &[f64], k: usize) -> bool
     keeps_each(cells, p, &spots[a..e])
 }
 
-// Whether `p` keeps the spacing from every spot in the nine cells around its own.
+// The same for all spots.
 pub fn keeps_all(cells: Cells, p: Point, spots: &[f64]) -> bool
     ensures { λ r. ⌜ r ≡ all (keeps cells p) (spotsOf (now (spots .entry))) ⌝ }
 {
@@ -125,7 +126,7 @@ pub fn keeps_all(cells: Cells, p: Point, spots: &[f64]) -> bool
     keeps_each(cells, p, &spots[a..])
 }
 
-// Where the cell of a place has its hint: cells 64 apart share one.
+// Hints: for each cell the spot placed there last. This is where a place's cell has its hint; cells 64 apart share one.
 pub fn home(cells: Cells, p: Point) -> usize
     ensures { λ r. ⌜ r < 4096 ⌝ }
 {
@@ -142,6 +143,7 @@ fn around(h: usize, k: usize) -> usize
     (h / 64 + 63 + k / 3) % 64 * 64 + (h + 63 + k % 3) % 64
 }
 
+// Whether spot `k` is there and too near.
 fn is_too_near(cells: Cells, p: Point, spots: &[f64], k: usize) -> bool
     ensures { λ r. ⌜ (r ≡ true → all (keeps cells p) (spotsOf (now (spots .entry))) ≡ false) ⌝ }
 {
@@ -151,7 +153,8 @@ fn is_too_near(cells: Cells, p: Point, spots: &[f64], k: usize) -> bool
     false
 }
 
-// Whether one of the spots that are hinted at around `p` is too near. Any spots may be: they are looked at first.
+// Whether a spot hinted at around `p` is too near. Most candidates end here, without a look at all spots; a hint may be
+// any number.
 pub fn is_hinted(cells: Cells, p: Point, spots: &[f64], hints: &[usize; 4096]) -> bool
     ensures { λ r. ⌜ (r ≡ true → all (keeps cells p) (spotsOf (now (spots .entry))) ≡ false) ⌝ }
 {

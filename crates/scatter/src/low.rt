@@ -1,7 +1,6 @@
 // discs.rs, `pack_low_discrepancy_piece`: a Halton sequence filtered by clearance and spacing, for one piece.
 ghost use mathlib.Core.Path.{_≡_};
-ghost use mathlib.Core.Bool.{true, cond};
-ghost use mathlib.Core.List.{[], _∷_, _++_};
+ghost use mathlib.Core.Bool.{cond};
 ghost use Prim.Native.Nat.{_+_, _*_, _/_, _≤_, _<_};
 ghost use lib.ListN.{length, take};
 ghost use Rattle.laws.specs.Lists.{written};
@@ -61,6 +60,7 @@ fn halton_point(e: Extents, index: usize) -> Point
     }
 }
 
+// What is tried at an index: the anchor first.
 fn candidate(anchor: Anchor, e: Extents, index: usize) -> Point
     requires { ⌜ index < 1000000 ⌝ }
     ensures { λ r. ⌜ r ≡ firstOr anchor index (haltonPoint (e .«min_x») (e .«max_x») (e .«min_y») (e .«max_y») index) ⌝ }
@@ -74,6 +74,7 @@ fn candidate(anchor: Anchor, e: Extents, index: usize) -> Point
     p
 }
 
+// Whether a candidate is placed: by the hints, the rings, all spots and, where `honor` says so, the obstacles.
 fn admits(
     honor: bool,
     p: Point,

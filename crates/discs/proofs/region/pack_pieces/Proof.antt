@@ -1,6 +1,6 @@
 -- `pack_pieces` meets its contract. The invariant: the pieces left, from the stream as it is now, and the spots so far make up the whole.
 -- Rests on the laws of a turn.
-use Prim.Native.Nat.{_≤_, _-_}
+use Prim.Native.Nat.{_-_}
 use mathlib.Core.Path.{_≡_, refl, _∙_}
 use native.Mathlib.Omega.{arith}
 use borrow.Author.Needs.{needs}

@@ -1,6 +1,6 @@
 -- `keeps` meets its contract: a spot that is far enough needs no cell.
 -- Rests on the laws that take the distance first.
-use mathlib.Core.Path.{_≡_, sym, ap, _∙_}
+use mathlib.Core.Path.{sym, ap, _∙_}
 use mathlib.Core.Bool.{not}
 use borrow.Author.Needs.{needs}
 use Rattle.scatter.specs.Cells.{far-keeps, near-keeps}

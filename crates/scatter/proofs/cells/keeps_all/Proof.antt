@@ -1,6 +1,6 @@
 -- `keeps_all` meets its contract. The invariant: the answer is that of the spots from spot k on.
 -- Rests on the laws of `all` over a block, and of a slice's part.
-use mathlib.Core.Path.{_≡_, refl, sym, ap, _∙_}
+use mathlib.Core.Path.{_≡_, refl, sym, _∙_}
 use Prim.Native.Nat.{_≤_, _-_, _*_, _/_}
 use native.Mathlib.Omega.{arith}
 use lib.ListN.{length, take, drop, length-drop}

@@ -3,7 +3,6 @@
 use mathlib.Core.Path.{_≡_, sym, _∙_}
 use Prim.Native.Nat.{_+_, _-_, _*_}
 use native.Mathlib.Omega.{arith}
-use lib.ListN.{take, drop}
 use borrow.Author.Needs.{needs}
 use Rattle.glyphs.specs.Spots.{spots-take, spots-drop}
 use Rattle.scatter.specs.Cells.{all-far}

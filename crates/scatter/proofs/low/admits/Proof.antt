@@ -1,6 +1,6 @@
 -- `admits` meets its contract: a hint, the clearance, all spots, then the obstacles.
 -- Rests on the laws that the tests may come in any order.
-use mathlib.Core.Path.{_≡_, sym, _∙_}
+use mathlib.Core.Path.{sym, _∙_}
 use borrow.Author.Needs.{needs}
 use borrow.Author.Tests.{not-true, not-false}
 use Rattle.glyphs.specs.Rect.{rectangles}

@@ -2,7 +2,6 @@
 -- Rests on the laws of the anchor.
 use mathlib.Core.Path.{_≡_, sym, _∙_}
 use borrow.Author.Needs.{needs}
-use native.Mathlib.Omega.{arith}
 use Rattle.scatter.specs.declared.low.Anchor.the-variants.{Nowhere}
 use Rattle.scatter.specs.Passes.{later, first}
 use Rattle.scatter.proofs.low.candidate.Statement.{statement}

@@ -1,11 +1,10 @@
 -- `lone_anchor` meets its contract: for one mark the deepest point, moved off the obstacles near the piece.
 -- Rests on the laws of a lone mark's anchor.
-use mathlib.Core.Path.{_≡_, refl, sym, ap, _∙_}
+use mathlib.Core.Path.{_≡_, sym, ap, _∙_}
 use borrow.Author.Needs.{needs}
-use lib.Ieee.{Float}
 use lib.Seq.{length-take-le}
-use Rattle.glyphs.specs.declared.bounds.Bounds.the-variants.{Box, Nothing}
-use Rattle.glyphs.specs.Rect.{rectangles, obstaclesNear}
+use Rattle.glyphs.specs.declared.bounds.Bounds.the-variants.{Nothing}
+use Rattle.glyphs.specs.Rect.{rectangles}
 use Rattle.regions.specs.Ring.{pieceOf}
 use Rattle.scatter.specs.declared.low.Anchor.the-variants.{At}
 use Rattle.scatter.specs.Passes.{no-anchor, unbounded-anchor, anchor-is}

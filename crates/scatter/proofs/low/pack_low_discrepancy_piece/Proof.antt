@@ -1,6 +1,6 @@
 -- `pack_low_discrepancy_piece` meets its contract: no spots for no marks or without bounds, else those of both passes.
 -- Rests on the laws of the packer by its parts.
-use mathlib.Core.Path.{_≡_, refl, sym, ap, _∙_}
+use mathlib.Core.Path.{_≡_, sym, ap, _∙_}
 use mathlib.Core.List.{List}
 use borrow.Author.Needs.{needs}
 use lib.ListN.{length}

@@ -1,12 +1,10 @@
 -- `passes` meets its contract: the second pass is made where obstacles are near and not walls.
 -- Rests on the laws of both passes, and of a second run over what a first has placed.
-use mathlib.Core.Path.{_≡_, refl, sym, ap, _∙_}
+use mathlib.Core.Path.{refl, sym, ap, _∙_}
 use mathlib.Core.Bool.{true, false}
 use mathlib.Core.List.{List, []}
-use Prim.Native.Nat.{_≤_}
 use native.Mathlib.Omega.{arith}
 use borrow.Author.Needs.{needs}
-use lib.Ieee.{Float}
 use lib.ListN.{length}
 use Rattle.laws.specs.Lists.{written}
 use Rattle.glyphs.specs.declared.rect.Point.{Point}

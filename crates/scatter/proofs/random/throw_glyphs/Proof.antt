@@ -1,5 +1,5 @@
--- `throw_glyphs` meets its contract. The invariants: what is left of the pass, from the marks and the stream as they are now, ends as the whole pass; and
--- the slice differs only in its first marks. Rests on the laws of a turn of each loop.
+-- `throw_glyphs` meets its contract. The invariants: what is left of the pass ends as the whole pass, and the slice differs only in its first marks.
+-- Rests on the laws of a turn of each loop.
 use mathlib.Core.Path.{_≡_, refl, sym, ap, _∙_}
 use Prim.Native.Nat.{_≤_, _<_, _+_, _-_, _^_}
 use native.Mathlib.Omega.{arith}

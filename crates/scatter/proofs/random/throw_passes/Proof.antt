@@ -1,6 +1,6 @@
 -- `throw_passes` meets its contract: the first pass, and the second one from where it ends.
 -- Rests on the laws of the two passes.
-use mathlib.Core.Path.{_≡_, sym, ap, _∙_}
+use mathlib.Core.Path.{ap, _∙_}
 use native.Mathlib.Omega.{arith}
 use borrow.Author.Needs.{needs}
 use Rattle.glyphs.specs.Rect.{rectangles}
