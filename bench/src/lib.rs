@@ -1,4 +1,6 @@
 //! What the programs share: random bits, a ring, and the time of a call.
+pub mod packing;
+
 use std::f64::consts::TAU;
 use std::hint::black_box;
 use std::time::Instant;

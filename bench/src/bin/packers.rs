@@ -1,138 +1,154 @@
-//! The random packer without and with its relaxation, and the relaxation alone, on one zone, beside the Rust original.
-use bench::{Bits, line, star, time};
-use oracle::judge;
+//! Low discrepancy, the random packer without and with its relaxation, and the relaxation alone, on one zone, beside
+//! the Rust original.
+use bench::packing::Zone;
+use bench::{Bits, line, time};
+use oracle::geometry::primitives::Point;
 use oracle::plotting::glyphs::GlyphArrangement;
 use oracle::plotting::glyphs::discs::layers::{self, Packing};
+use std::f64::consts::PI;
 
-unsafe extern "C" {
-    fn probe_pack_random(
-        sizes: *const u64,
-        rings: usize,
-        coords: *const f64,
-        floats: usize,
-        obstacles: *const f64,
-        obstacle_floats: usize,
-        settings: *const f64,
-        quota: u64,
-        attempts: u32,
-        spread: u8,
-        strict: u8,
-        state: *mut u64,
-        first: *mut f64,
-        first_length: usize,
-        second: *mut f64,
-        second_length: usize,
-        spots: *mut f64,
-        spot_floats: usize,
-    ) -> u64;
-    fn probe_relax_scatter(
-        sizes: *const u64,
-        rings: usize,
-        coords: *const f64,
-        floats: usize,
-        obstacles: *const f64,
-        obstacle_floats: usize,
-        spacing: f64,
-        inset: f64,
-        spots: *mut f64,
-        spot_floats: usize,
-    );
+macro_rules! packers {
+    ($($name:ident),*) => {
+        unsafe extern "C" {
+            $(fn $name(
+                sizes: *const u64,
+                rings: usize,
+                coords: *const f64,
+                floats: usize,
+                obstacles: *const f64,
+                obstacle_floats: usize,
+                settings: *const f64,
+                quota: u64,
+                attempts: u32,
+                spread: u8,
+                strict: u8,
+                state: *mut u64,
+                first: *mut f64,
+                first_length: usize,
+                second: *mut f64,
+                second_length: usize,
+                spots: *mut f64,
+                spot_floats: usize,
+            ) -> u64;)*
+            fn probe_relax_scatter(
+                sizes: *const u64,
+                rings: usize,
+                coords: *const f64,
+                floats: usize,
+                obstacles: *const f64,
+                obstacle_floats: usize,
+                spacing: f64,
+                inset: f64,
+                spots: *mut f64,
+                spot_floats: usize,
+            );
+        }
+    };
 }
+packers!(probe_pack_low_discrepancy, probe_pack_random);
 
-const EDGES: usize = 16;
 const ATTEMPTS: u32 = 200;
 
-fn flat(spots: &[oracle::geometry::primitives::Point]) -> Vec<f64> {
+fn flat(spots: &[Point]) -> Vec<f64> {
     spots.iter().flat_map(|p| [p.x(), p.y()]).collect()
+}
+
+fn low_discrepancy(quota: usize, edges: usize, bits: &mut Bits) {
+    let zone = Zone::star(edges, bits);
+    // Parts of the area that the marks cover.
+    let covers: Vec<f64> = (0..6).map(|_| 0.25 + 0.1 * bits.unit()).collect();
+    let radius = |cover: f64| (cover * zone.piece.area() / (PI * quota as f64)).sqrt();
+    let rust = |cover: f64| {
+        let packing = Packing {
+            arrangement: GlyphArrangement::LowDiscrepancy,
+            quota,
+            precision: 0.5,
+            attempts: ATTEMPTS,
+            radius: radius(cover),
+            gap: 0.1,
+            boundary_gap: 0.1,
+            obstacles: &[],
+            spread: true,
+            strict: true,
+            state: 0,
+        };
+        flat(&layers::pack_piece(&zone.piece, &packing).0)
+    };
+    let ours = |cover: f64| {
+        let settings = [radius(cover), 0.1, 0.1, 0.5];
+        zone.pack(probe_pack_low_discrepancy, settings, quota, ATTEMPTS, true, true, 0).0
+    };
+    assert!(covers.iter().all(|&c| rust(c) == ours(c)));
+    line(&format!("low discrepancy, {quota} marks, {edges} edges"), time(&covers, rust), time(&covers, ours));
+}
+
+fn random(quota: usize, bits: &mut Bits) {
+    let zone = Zone::star(16, bits);
+    // Marks that fill a third of the zone.
+    let radius = (zone.piece.area() / (3.0 * PI * quota as f64)).sqrt();
+    let packing = |state: u64, spread: bool| Packing {
+        arrangement: GlyphArrangement::Random,
+        quota,
+        precision: 1.0,
+        attempts: ATTEMPTS,
+        radius,
+        gap: 0.0,
+        boundary_gap: 0.0,
+        obstacles: &[],
+        spread,
+        strict: false,
+        state,
+    };
+    let states: Vec<u64> = (0..3).map(|_| bits.draw()).collect();
+    for (name, spread) in [("thrown", false), ("random", true)] {
+        let rust = |state: u64| {
+            let (spots, state) = layers::pack_piece(&zone.piece, &packing(state, spread));
+            (flat(&spots), state)
+        };
+        let settings = [radius, 0.0, 0.0, 1.0];
+        let ours = |state: u64| zone.pack(probe_pack_random, settings, quota, ATTEMPTS, spread, false, state);
+        assert!(states.iter().all(|&s| rust(s) == ours(s)));
+        line(&format!("{name}, {quota} marks, 16 edges"), time(&states, rust), time(&states, ours));
+    }
+    let (thrown, _) = layers::pack_piece(&zone.piece, &packing(states[0], false));
+    relaxation(&zone, &thrown, radius);
+}
+
+fn relaxation(zone: &Zone, thrown: &[Point], radius: f64) {
+    let rust = |spacing: f64| {
+        let mut spots = thrown.to_vec();
+        layers::relax_scatter(&mut spots, &zone.piece, &[], spacing, radius);
+        flat(&spots)
+    };
+    let ours = |spacing: f64| {
+        let mut spots = flat(thrown);
+        unsafe {
+            probe_relax_scatter(
+                zone.sizes.as_ptr(),
+                1,
+                zone.coords.as_ptr(),
+                zone.coords.len(),
+                [0.0; 0].as_ptr(),
+                0,
+                spacing,
+                radius,
+                spots.as_mut_ptr(),
+                spots.len(),
+            );
+        }
+        spots
+    };
+    let spacings = [2.0 * radius];
+    assert!(rust(spacings[0]) == ours(spacings[0]));
+    line(&format!("relaxation, {} marks, 16 edges", thrown.len()), time(&spacings, rust), time(&spacings, ours));
 }
 
 fn main() {
     let mut bits = Bits(0x9e37_79b9_7f4a_7c15);
-    let rings = vec![star(EDGES, &mut bits)];
-    let piece = judge::piece_of(&rings);
-    let sizes = [EDGES as u64];
-    let coords: Vec<f64> = rings.iter().flatten().flatten().map(|v| judge::units(*v)).collect();
-    println!("{:<44} {:>12} {:>12} {:>7}", "one zone of 16 edges", "Rust", "ours", "times");
+    println!("{:<44} {:>12} {:>12} {:>7}", "one zone", "Rust", "ours", "times");
     for quota in [100, 500, 1_100, 2_000] {
-        // marks that fill a third of the zone
-        let radius = (piece.area() / (3.0 * std::f64::consts::PI * quota as f64)).sqrt();
-        let packing = |state: u64, spread: bool| Packing {
-            arrangement: GlyphArrangement::Random,
-            quota,
-            precision: 1.0,
-            attempts: ATTEMPTS,
-            radius,
-            gap: 0.0,
-            boundary_gap: 0.0,
-            obstacles: &[],
-            spread,
-            strict: false,
-            state,
-        };
-        let settings = [radius, 0.0, 0.0, 1.0];
-        let states: Vec<u64> = (0..3).map(|_| bits.draw()).collect();
-        for (name, spread) in [("thrown", false), ("random", true)] {
-            let rust = |state: u64| layers::pack_piece(&piece, &packing(state, spread));
-            let ours = |state: u64| {
-                let (mut first, mut second) = (vec![0.0; 8_000], vec![0.0; 8_000]);
-                let (mut spots, mut state) = (vec![0.0; 2 * quota], state);
-                let placed = unsafe {
-                    probe_pack_random(
-                        sizes.as_ptr(),
-                        1,
-                        coords.as_ptr(),
-                        coords.len(),
-                        [0.0; 0].as_ptr(),
-                        0,
-                        settings.as_ptr(),
-                        quota as u64,
-                        ATTEMPTS,
-                        spread.into(),
-                        0,
-                        &mut state,
-                        first.as_mut_ptr(),
-                        first.len(),
-                        second.as_mut_ptr(),
-                        second.len(),
-                        spots.as_mut_ptr(),
-                        spots.len(),
-                    )
-                };
-                spots.truncate(2 * placed as usize);
-                (spots, state)
-            };
-            assert!(states.iter().all(|&s| {
-                let (spots, state) = rust(s);
-                (flat(&spots), state) == ours(s)
-            }));
-            line(&format!("{name}, {quota} marks"), time(&states, rust), time(&states, ours));
-        }
-        let (thrown, _) = layers::pack_piece(&piece, &packing(states[0], false));
-        let rust = |spacing: f64| {
-            let mut spots = thrown.clone();
-            layers::relax_scatter(&mut spots, &piece, &[], spacing, radius);
-            flat(&spots)
-        };
-        let ours = |spacing: f64| {
-            let mut spots = flat(&thrown);
-            unsafe {
-                probe_relax_scatter(
-                    sizes.as_ptr(),
-                    1,
-                    coords.as_ptr(),
-                    coords.len(),
-                    [0.0; 0].as_ptr(),
-                    0,
-                    spacing,
-                    radius,
-                    spots.as_mut_ptr(),
-                    spots.len(),
-                );
-            }
-            spots
-        };
-        let spacings = [2.0 * radius];
-        assert!(rust(spacings[0]) == ours(spacings[0]));
-        line(&format!("relaxation, {} marks", thrown.len()), time(&spacings, rust), time(&spacings, ours));
+        low_discrepancy(quota, 8, &mut bits);
+        low_discrepancy(quota, 64, &mut bits);
+        random(quota, &mut bits);
     }
 }
