@@ -60,8 +60,9 @@ double probe_depth(PIECE, double precision, double *cells, size_t cell_floats);
 /* discs.rs, each packer on one piece with its quota (at least 1). settings are
  * radius, gap, boundary gap, precision. `state` is the stream's, before and
  * after; only Random changes it. The answer is the number of spots; `spots`
- * begins with them, x and y in turn, and has room for the quota. The piece's
- * search has at most 1,600 cells waiting. */
+ * begins with them, x and y in turn, and has room for the quota. A lattice that
+ * is not spread is strict and only counted. The piece's search has at most 1,600
+ * cells waiting. */
 #define PACKER(name)                                                           \
     uint64_t name(PIECE, OBSTACLES, const double settings[4], uint64_t quota,  \
                   uint32_t attempts, uint8_t spread, uint8_t strict,           \

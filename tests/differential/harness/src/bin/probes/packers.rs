@@ -77,6 +77,7 @@ packer!(
 packer!(has_probe_pack_random, random, probe_pack_random, Random);
 
 fn compare(run: &Run, name: &str, packer: Packer, arrangement: GlyphArrangement) -> Tally {
+    let lattice = matches!(arrangement, GlyphArrangement::Uniform | GlyphArrangement::Rectangular);
     on_two_threads(name, &run.kept, run.jobs, |tally, number| {
         let Some(floor) = floor(number) else { return };
         let mut rng = Rng::new(78, number);
@@ -84,6 +85,9 @@ fn compare(run: &Run, name: &str, packer: Packer, arrangement: GlyphArrangement)
         let flat = flat_obstacles(&obstacles);
         let (gap, boundary_gap) = gaps(&floor.job);
         for (index, input) in pieces(&floor).iter().enumerate() {
+            // A lattice's trial only counts, and is strict.
+            let spread = rng.one_in(2);
+            let counts = lattice && !spread;
             let packing = Packing {
                 arrangement,
                 quota: input.quota,
@@ -93,8 +97,8 @@ fn compare(run: &Run, name: &str, packer: Packer, arrangement: GlyphArrangement)
                 gap,
                 boundary_gap,
                 obstacles: &obstacles,
-                spread: rng.one_in(2),
-                strict: rng.one_in(2),
+                spread,
+                strict: counts || rng.one_in(2),
                 state: rng.bits(),
             };
             if packing.quota == 0 {
@@ -130,7 +134,7 @@ fn compare(run: &Run, name: &str, packer: Packer, arrangement: GlyphArrangement)
                 )
             };
             let same = placed as usize == spots.len()
-                && same_floats(&given[..2 * spots.len()], &flat_points(&spots))
+                && (counts || same_floats(&given[..2 * spots.len()], &flat_points(&spots)))
                 && given_state == state;
             tally
                 .count(same, || (format!("{}-piece-{index}.job", floor.name), floor.bytes.clone()));

@@ -3,8 +3,8 @@
 use native.Mathlib.Omega.{arith}
 use borrow.Author.Needs.{needs}
 use lib.ListN.{length-take}
-use Rattle.probes.proofs.lone_place.Statement.{statement}
-use Rattle.probes.proofs.lone_place.Tie as tie
+use Rattle.probes.proofs.packers.lone_place.Statement.{statement}
+use Rattle.probes.proofs.packers.lone_place.Tie as tie
 
 deepest-point-requires : tie.Need-deepest-point-requires
 deepest-point-requires c κs = (search needs, search needs, simp length-take (omega arith))
