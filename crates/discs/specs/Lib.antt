@@ -1,3 +1,4 @@
 pub mod Region
 pub mod Radius
 pub mod PlaceGlyphs
+pub mod Floor

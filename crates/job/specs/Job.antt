@@ -1,17 +1,20 @@
 -- The job: what the reader refuses, what it reads, and what the call asks of its lent slices. Definitions only.
 use Prim.Native.Nat.{ℕ, zero, suc, _+_, _*_}
-use mathlib.Core.Bool.{Bool, cond, _&&_}
+use mathlib.Core.Bool.{cond}
 use mathlib.Core.List.{List, [], _∷_, map, flatten, flatMap}
 use lib.ListN.{length, drop}
-use lib.Dec.{ltb, leb, eqb}
+use lib.Dec.{leb, eqb}
 use lib.Ieee.{Float}
+use Rattle.discs.specs.Region.{Zone}
+use Rattle.discs.specs.PlaceGlyphs.{workOf}
+use Rattle.discs.specs.Floor.{rowOf, rowIsLeftIn}
 use Rattle.discs.specs.declared.options.GlyphOptions.{GlyphOptions}
+use Rattle.discs.specs.declared.rows.Row.{Row}
 use Rattle.glyphs.specs.Points.{vertices}
 use Rattle.format.specs.Rows.{_unless_, _orElse_, faults, past, each, flat}
 use Rattle.format.specs.Numbers.{u16, u16In}
 use Rattle.job.specs.Head.{lentFault, headFault, obstaclesAt, optionsOf, obstaclesFault, obstaclesEnd, obstacles}
-use Rattle.job.specs.Zones.{Zone, Place, zone, zoneEnd, zoneFault, zoneNext, zoneRow, rowOf}
-use Rattle.job.specs.declared.zones.Row.{Row}
+use Rattle.job.specs.Zones.{Place, zone, zoneEnd, zoneFault, zoneNext, zoneRow}
 use Rattle.job.specs.declared.read.Reading.{Reading}
 use Rattle.job.specs.declared.read.Reading.the-variants.{Refused, Read}
 
@@ -72,27 +75,17 @@ rowsOf s = flat (zoneRow s) (zoneEnd s) (u16 s (zonesAt s)) (zonesAt s + 2)
 
 -- ---- row 14, the sheet buffer, by its length
 
-unfoldable pub isLeftIn : Zone → Bool
-isLeftIn z = ltb 0 (z .count) && ltb 0 (length (z .pieces))
-
-unfoldable pub leftIn : List Zone → List Zone
-leftIn [] = []
-leftIn (z ∷ zs) = cond (isLeftIn z) (z ∷ leftIn zs) (leftIn zs)
-
 unfoldable pub zonesRoom : List Zone → ℕ
 zonesRoom [] = 0
 zonesRoom (z ∷ zs) = 5 + length (z .key) + 16 * z .count + zonesRoom zs
 
 unfoldable pub sheetRoom : Job → ℕ
-sheetRoom job = 15 + zonesRoom (leftIn (job .zones))
+sheetRoom job = 15 + zonesRoom (workOf (job .zones))
 
 unfoldable pub sheetFault : Job → ℕ → ℕ
 sheetFault job sheet = 14 unless leb (sheetRoom job) sheet
 
 -- the same of n rows
-unfoldable pub rowIsLeftIn : Row → Bool
-rowIsLeftIn row = ltb 0 (row .count) && ltb 0 (row .pieces)
-
 unfoldable pub rowRoom : Row → ℕ
 rowRoom row = cond (rowIsLeftIn row) (5 + row .len + 16 * row .count) 0
 

@@ -12,7 +12,8 @@ use Rattle.format.specs.Pieces.{piece, pieceEnd, pieceCoords, ringSizes}
 use Rattle.format.specs.RowLaws.{both, each-map, flat-each}
 use Rattle.format.specs.NumberLaws.{Passed, item-passed}
 use Rattle.format.specs.PieceLaws.{coords-flat, sizes-map, length-piece}
-use Rattle.job.specs.Zones.{Zone, zone, zoneEnd, zoneCoords, zoneSizes, zoneRings, countAt, piecesAt}
+use Rattle.discs.specs.Region.{Zone}
+use Rattle.job.specs.Zones.{zone, zoneEnd, zoneCoords, zoneSizes, zoneRings, countAt, piecesAt}
 use Rattle.job.specs.Job.{zonesAt, zonesFault, zones, coordsOf, sizesOf, ringsOf}
 
 module _ (s : List ℕ) where

@@ -8,6 +8,7 @@ use native.Mathlib.Omega.{arith}
 use lib.ListN.{length}
 use lib.Dec.{eqb}
 use lib.Ieee.{Float}
+use Rattle.discs.specs.Region.{Zone}
 use Rattle.discs.specs.declared.options.Radius.{Radius}
 use Rattle.discs.specs.declared.options.Radius.the-variants.{Auto, Stated}
 use Rattle.discs.specs.declared.options.BoundaryGap.{BoundaryGap}
@@ -22,7 +23,7 @@ use Rattle.format.specs.Exact.{Coordinate}
 use Rattle.format.specs.Known.{All, all-each, coords-known, PieceKnown, piece-known}
 use Rattle.job.specs.Head.{radiusKindAt, radiusAt, gapAt, boundaryKindAt, boundaryGapAt, precisionAt, attemptsAt, obstaclesAt, numberAfter, choicesFault, measuresFault, headFault, radiusOf, boundaryOf, optionsOf, obstaclesFault, obstacles}
 use Rattle.job.specs.HeadLaws.{length-obstacles}
-use Rattle.job.specs.Zones.{Zone, Place, zone, zoneEnd, zoneNext, zoneFault, openingFault, keyFault, keyAt, countAt, marksAt, piecesAt}
+use Rattle.job.specs.Zones.{Place, zone, zoneEnd, zoneNext, zoneFault, openingFault, keyFault, keyAt, countAt, marksAt, piecesAt}
 use Rattle.job.specs.ZoneLaws.{opening-passed, key-inside}
 use Rattle.job.specs.Job.{Job, zonesAt, firstZone, zonesFault, zones, itemsFault, jobOf}
 

@@ -7,4 +7,5 @@ pub mod ZoneLaws
 pub mod JobLaws
 pub mod Rows
 pub mod Known
+pub mod Plan
 pub mod Examples

@@ -13,10 +13,13 @@ use Rattle.format.specs.Numbers.{u8, u16}
 use Rattle.format.specs.Pieces.{piece, pieceEnd}
 use Rattle.format.specs.RowLaws.{both, faults-at, each-at, length-each}
 use Rattle.format.specs.NumberLaws.{item-passed, length-part}
-use Rattle.job.specs.declared.zones.Row.{Row}
-use Rattle.job.specs.Zones.{Place, Zone, zone, zoneEnd, zoneNext, zoneFault, openingFault, keyFault, keyAt, countAt, piecesAt, rowAt, rowOf, zoneRow}
+use Rattle.discs.specs.Region.{Zone}
+use Rattle.discs.specs.PlaceGlyphs.{leftIn, workOf}
+use Rattle.discs.specs.Floor.{rowOf, rowIsLeftIn}
+use Rattle.discs.specs.declared.rows.Row.{Row}
+use Rattle.job.specs.Zones.{Place, zone, zoneEnd, zoneNext, zoneFault, openingFault, keyFault, keyAt, countAt, piecesAt, rowAt, zoneRow}
 use Rattle.job.specs.ZoneLaws.{key-inside, opening-passed}
-use Rattle.job.specs.Job.{zonesAt, firstZone, zones, zonesFault, itemsFault, jobOf, isLeftIn, leftIn, zonesRoom, sheetRoom, rowIsLeftIn, rowRoom, rowsRoom, rowsOf}
+use Rattle.job.specs.Job.{zonesAt, firstZone, zones, zonesFault, itemsFault, jobOf, zonesRoom, sheetRoom, rowRoom, rowsRoom, rowsOf}
 
 -- its key and its marks are few enough for a sheet
 pub record Fits (row : Row) : Type 0 where
@@ -98,8 +101,8 @@ row-at s (suc n) at rest (suc i) h = row-next (flat (zoneRow s) (zoneEnd s) (suc
 
 -- ---- the room
 
-left-in : (s : List ℕ) (z : Zone) (row : Row) → IsRow s z row → rowIsLeftIn row ≡ isLeftIn z
-unfolding rowIsLeftIn isLeftIn
+left-in : (s : List ℕ) (z : Zone) (row : Row) → IsRow s z row → rowIsLeftIn row ≡ leftIn z
+unfolding rowIsLeftIn leftIn
 left-in s z row r = rw (r .count, r .pieces)
 
 one-room : (b : Bool) (z : Zone) (n : ℕ) (zs : List Zone) → n ≡ 5 + length (z .key) + 16 * z .count → cond b n 0 + zonesRoom zs ≡ zonesRoom (cond b (z ∷ zs) zs)
@@ -107,15 +110,15 @@ unfolding zonesRoom
 one-room true z n zs e = rw e
 one-room false z n zs e = omega arith
 
-row-room : (s : List ℕ) (z : Zone) (row : Row) (zs : List Zone) → IsRow s z row → rowRoom row + zonesRoom (leftIn zs) ≡ zonesRoom (leftIn (z ∷ zs))
-unfolding rowRoom leftIn
-row-room s z row zs r = rw (left-in s z row r) (one-room (isLeftIn z) z _ (leftIn zs) (rw (r .len, r .count)))
+row-room : (s : List ℕ) (z : Zone) (row : Row) (zs : List Zone) → IsRow s z row → rowRoom row + zonesRoom (workOf zs) ≡ zonesRoom (workOf (z ∷ zs))
+unfolding rowRoom workOf
+row-room s z row zs r = rw (left-in s z row r) (one-room (leftIn z) z _ (workOf zs) (rw (r .len, r .count)))
 
 rows-room :
     (s : List ℕ) (n : ℕ) (z : Place) (rest : List ℕ) → faults (zoneFault s) (zoneNext s) n z ≡ 0
-    → rowsRoom n (flat (zoneRow s) (zoneEnd s) n (z .at) ++ rest) ≡ zonesRoom (leftIn (each (zone s) (zoneEnd s) n (z .at)))
+    → rowsRoom n (flat (zoneRow s) (zoneEnd s) n (z .at) ++ rest) ≡ zonesRoom (workOf (each (zone s) (zoneEnd s) n (z .at)))
 unfolding faults rowsRoom flat each zoneRow zoneNext rowOf
-rows-room s zero z rest e = unfold leftIn zonesRoom in refl
+rows-room s zero z rest e = unfold workOf zonesRoom in refl
 rows-room s (suc n) z rest e =
     let p = both (zoneFault s z) (faults (zoneFault s) (zoneNext s) n (zoneNext s z)) e in
     ap (λ (x : ℕ). rowRoom (rowAt s (z .at)) + x) (rows-room s n (zoneNext s z) rest (p .1))

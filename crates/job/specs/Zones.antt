@@ -2,14 +2,14 @@
 use Prim.Native.Nat.{ℕ, _+_, _*_}
 use mathlib.Core.Bool.{Bool, true, false, cond, _||_}
 use mathlib.Core.List.{List, [], _∷_}
-use lib.ListN.{getD, take, drop}
+use lib.ListN.{take, drop}
 use lib.Dec.{ltb, leb}
 use lib.Ieee.{Float}
 use Rattle.format.specs.Rows.{_unless_, _orElse_, faults, past, each, flat}
 use Rattle.format.specs.Numbers.{u8, u16, u8In, u16In, whole, within}
-use Rattle.regions.specs.Ring.{Piece}
 use Rattle.format.specs.Pieces.{piece, pieceFault, pieceEnd, pieceCoords, ringSizes}
-use Rattle.job.specs.declared.zones.Row.{Row}
+use Rattle.discs.specs.Region.{Zone}
+use Rattle.discs.specs.declared.rows.Row.{Row}
 
 -- ---- a key: key length u8 1..32, key bytes A-Z, a-z, 0-9; above the last key in byte order
 
@@ -61,11 +61,6 @@ piecesAt s at = u8 s (countAt s at + 2)
 unfoldable pub zoneEnd : List ℕ → ℕ → ℕ
 zoneEnd s at = past (pieceEnd s) (piecesAt s at) (countAt s at + 3)
 
-pub record Zone : Type 0 where
-  pub key : List ℕ
-  pub count : ℕ
-  pub pieces : List Piece
-
 unfoldable pub zone : List ℕ → ℕ → Zone
 zone s at =
     record {
@@ -113,7 +108,3 @@ numbersOf row = row .key ∷ row .len ∷ row .count ∷ row .pieces ∷ []
 
 unfoldable pub zoneRow : List ℕ → ℕ → List ℕ
 zoneRow s at = numbersOf (rowAt s at)
-
--- row z of a list of rows
-unfoldable pub rowOf : List ℕ → ℕ → Row
-rowOf l z = record { key = getD l (z * 4) 0; len = getD l (z * 4 + 1) 0; count = getD l (z * 4 + 2) 0; pieces = getD l (z * 4 + 3) 0 }

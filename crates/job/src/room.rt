@@ -2,18 +2,12 @@
 ghost use mathlib.Core.Path.{_≡_};
 ghost use Prim.Native.Nat.{ℕ, _+_, _*_, _<_, _≤_};
 ghost use lib.ListN.{length};
-ghost use Rattle.job.specs.Zones.{rowOf};
-ghost use Rattle.job.specs.Job.{rowIsLeftIn, rowRoom, rowsRoom};
+ghost use Rattle.discs.specs.Floor.{rowOf};
+ghost use Rattle.job.specs.Job.{rowRoom, rowsRoom};
 ghost use Rattle.job.specs.Rows.{Fits};
-use crate::zones::Row;
-use crate::zones::get_row;
-
-// Whether a zone is left in: it has marks and pieces.
-pub fn is_left_in(row: Row) -> bool
-    ensures { λ r. ⌜ r ≡ rowIsLeftIn row ⌝ }
-{
-    (0 < row.count) & (0 < row.pieces)
-}
+use discs::rows::Row;
+use discs::rows::get_row;
+use discs::rows::is_left_in;
 
 fn row_room(row: Row) -> usize
     requires { ⌜ Fits row ⌝ }

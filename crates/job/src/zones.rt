@@ -4,22 +4,15 @@ ghost use Prim.Native.Nat.{_+_, _*_, _≤_};
 ghost use lib.ListN.{length};
 ghost use lib.Seq.{sets};
 ghost use Rattle.format.specs.Steps.{Room};
-ghost use Rattle.job.specs.Zones.{countAt, countsFault, openingFault, rowAt, rowOf, numbersOf};
+ghost use Rattle.job.specs.Zones.{countAt, countsFault, openingFault, rowAt, numbersOf};
 ghost use Rattle.job.specs.Steps.{Known, placeOf, ZoneRead, ZonesRead};
 use crate::keys::key_fault;
+use discs::rows::Row;
 use format::numbers::item;
 use format::numbers::uint;
 use format::pieces::Cursor;
 use format::pieces::Step;
 use format::pieces::pieces;
-
-// A zone's four numbers: where its key starts, how long that is, its mark count, its piece count.
-pub struct Row {
-    pub key: usize,
-    pub len: usize,
-    pub count: usize,
-    pub pieces: usize,
-}
 
 // What came before a zone: how many zones, where the last key starts, how long that is, the marks so far.
 pub struct Before {
@@ -34,20 +27,6 @@ pub struct ZoneStep {
     pub fault: u8,
     pub to: Cursor,
     pub before: Before,
-}
-
-// Row `z`.
-pub fn get_row(rows: &[usize], z: usize) -> Row
-    requires { ⌜ z * 4 + 4 ≤ length (now rows) ⌝ }
-    ensures { λ r. ⌜ r ≡ rowOf (now (rows .entry)) z ⌝ }
-{
-    let k = z * 4;
-    Row {
-        key: rows[k],
-        len: rows[k + 1],
-        count: rows[k + 2],
-        pieces: rows[k + 3],
-    }
 }
 
 fn put_row(rows: &mut [usize], z: usize, row: Row)

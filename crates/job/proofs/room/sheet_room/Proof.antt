@@ -4,8 +4,8 @@ use mathlib.Core.Path.{_≡_, _∙_}
 use Prim.Native.Nat.{_+_, _-_, _*_, _≤_}
 use native.Mathlib.Omega.{arith}
 use lib.ListN.{drop}
+use Rattle.discs.specs.Floor.{rowOf}
 use Rattle.job.specs.Job.{rowRoom, rowsRoom}
-use Rattle.job.specs.Zones.{rowOf}
 use Rattle.job.specs.Rows.{rows-turn, rows-end}
 use borrow.Author.Needs.{needs}
 use Rattle.job.proofs.room.sheet_room.Statement.{statement}

@@ -6,7 +6,7 @@ use Prim.Native.Nat.{ℕ}
 use Prim.Native.Nat.{_+_, _-_}
 use native.Mathlib.Omega.{arith}
 use Rattle.format.specs.Rows.{faults}
-use Rattle.job.specs.declared.zones.Row.{Row}
+use Rattle.discs.specs.declared.rows.Row.{Row}
 use Rattle.format.specs.Numbers.{u8}
 use Rattle.format.specs.Pieces.{pieceFault, pieceEnd}
 use Rattle.format.specs.RowLaws.{rows, row-clear}

@@ -1,10 +1,10 @@
 -- `get_row` reads a row.
 -- Assumes nothing.
 use mathlib.Core.Path.{refl}
-use Rattle.job.specs.Zones.{rowOf}
+use Rattle.discs.specs.Floor.{rowOf}
 use borrow.Author.Needs.{needs}
-use Rattle.job.proofs.zones.get_row.Statement.{statement}
-use Rattle.job.proofs.zones.get_row.Tie as tie
+use Rattle.discs.proofs.rows.get_row.Statement.{statement}
+use Rattle.discs.proofs.rows.get_row.Tie as tie
 
 mul-k : tie.Need-mul-k
 mul-k c = search needs
