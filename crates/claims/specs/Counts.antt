@@ -18,7 +18,8 @@ use Rattle.glyphs.specs.declared.stream.Stream.{Stream}
 use Rattle.regions.specs.Ring.{Piece}
 use Rattle.lattice.specs.declared.context.PackCtx.{PackCtx}
 use Rattle.lattice.specs.Lattice.{HexCells, byAnchor, sortByAnchor, takeCells}
-use Rattle.scatter.specs.LowDiscrepancy.{Anchor, budget, candidate, admits, pass, passes}
+use Rattle.scatter.specs.declared.low.Anchor.{Anchor}
+use Rattle.scatter.specs.LowDiscrepancy.{budget, candidate, admits, pass, passes}
 use Rattle.scatter.specs.Random.{Thrown, Dart, hit, miss, afterDart, throw, glyphs, throws}
 
 -- ---- sorting

@@ -33,13 +33,14 @@ use Rattle.lattice.specs.Escape.{point}
 use Rattle.lattice.specs.Uniform.{localTo}
 use Rattle.deepest.specs.declared.search.Deepest.{Deepest}
 use Rattle.deepest.specs.declared.search.Deepest.the-variants.{Found, Nothing, Full}
-use Rattle.scatter.specs.LowDiscrepancy.{none, candidate, cellNumber, apart, admits, pass, passes, packWithin, packScatter, loneAnchor}
+use Rattle.scatter.specs.declared.low.Anchor.the-variants.{Nowhere}
+use Rattle.scatter.specs.LowDiscrepancy.{candidate, cellNumber, apart, admits, pass, passes, packWithin, packScatter, loneAnchor}
 use Rattle.discs.specs.declared.options.GlyphOptions.{GlyphOptions}
 use Rattle.discs.specs.declared.options.Radius.the-variants.{Stated}
 use Rattle.discs.specs.declared.options.BoundaryGap.the-variants.{Follows}
 use Rattle.discs.specs.Region.{Zone, quotas, deepestOf, packLowDiscrepancyPiece, packPiece, packPieces, packRegion}
 use Rattle.discs.specs.Radius.{contextAt}
-use Rattle.discs.specs.PlaceGlyphs.{leftIn, workOf, pack, packAt, placeWork, placeGlyphs}
+use Rattle.discs.specs.PlaceGlyphs.{leftIn, workOf, pack, packAt, sizeFor, sizing, placeGlyphs}
 use Rattle.format.specs.Rows.{_unless_, _orElse_, faults, past, each}
 use Rattle.format.specs.Numbers.{uint, item, inRange, coordIn, coordAt, coordOf, share as part}
 use Rattle.format.specs.Pieces.{ring, ringFault, ringEnd, piece, pieceFault, pieceEnd}
@@ -131,11 +132,11 @@ pub kept-near : localTo corner (pillar ∷ []) (inset ctx) ≡ pillar ∷ []
 unfolding inset obstaclesNear filter near ringBounds boxOf extentsOf extent outer min max Ieee.isNan Ieee.le Ieee.eq Ieee.lt Ieee.neg Ieee.ofBits Ieee.ofFields Ieee.odd Ieee.climb Ieee.span Ieee.size Ieee.units Ieee.round Ieee.sum Ieee.add Ieee.sub Ieee.mul
 kept-near = refl
 
-passed : (left : ℕ) → pass corner 2 ctx (pillar ∷ []) none 0ᶠ 12ᶠ 0ᶠ 12ᶠ true (suc (suc (suc (suc left)))) 0 [] ≡ one ∷ other ∷ []
+passed : (left : ℕ) → pass corner 2 ctx (pillar ∷ []) Nowhere 0ᶠ 12ᶠ 0ᶠ 12ᶠ true (suc (suc (suc (suc left)))) 0 [] ≡ one ∷ other ∷ []
 unfolding pass candidate admits apart cellNumber radicalInverse digits all signedClearance minDistToRings bestOfRing bestAfter closer edgeSquare along clamp within inAny pointInPolygon insideAfter intersect flip clearOfObstacles distToRect hypot max abs floor rootOf nearestRoot floorRoot inset spacing next prev outer holes Ieee.isNan Ieee.le Ieee.eq Ieee.lt Ieee.toSigned Ieee.toUnsigned Ieee.neg Ieee.ofBits Ieee.ofFields Ieee.odd Ieee.climb Ieee.span Ieee.size Ieee.units Ieee.round Ieee.sum Ieee.add Ieee.sub Ieee.mul Ieee.div Ieee.ofInt
 passed left = refl
 
-scattered : packScatter none corner 2 ctx (pillar ∷ []) ≡ one ∷ other ∷ []
+scattered : packScatter Nowhere corner 2 ctx (pillar ∷ []) ≡ one ∷ other ∷ []
 unfolding packScatter packWithin passes
 scattered = rw (bounded, kept-near) (passed 1020)
 
@@ -155,11 +156,11 @@ unfolding rectangles rectsFrom rectAt sanitizeObstacles filter sane isFinite abs
 pillars = refl
 
 pub placed : placedOf said ≡ record { zone = square; spots = (one ∷ other ∷ []) ∷ [] } ∷ []
-unfolding placementsOf placeGlyphs placeWork packAt workOf leftIn isFinite abs Ieee.lt Ieee.ofBits Ieee.ofFields Ieee.odd
+unfolding placementsOf placeGlyphs sizing sizeFor packAt workOf leftIn isFinite abs Ieee.lt Ieee.ofBits Ieee.ofFields Ieee.odd
 placed = rw (pillars, packed)
 
 pub found : placementsOf said .radius ≡ 1ᶠ
-unfolding placementsOf placeGlyphs placeWork packAt workOf leftIn isFinite abs Ieee.lt Ieee.ofBits Ieee.ofFields Ieee.odd
+unfolding placementsOf placeGlyphs sizing sizeFor packAt workOf leftIn isFinite abs Ieee.lt Ieee.ofBits Ieee.ofFields Ieee.odd
 found = refl
 
 pub inset-is : inset ctx ≡ 1ᶠ

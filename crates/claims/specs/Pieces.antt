@@ -28,7 +28,9 @@ use Rattle.lattice.specs.declared.context.PackCtx.{PackCtx}
 use Rattle.lattice.specs.Context.{inset, spacing}
 use Rattle.lattice.specs.Escape.{point, escapeObstacles}
 use Rattle.lattice.specs.Uniform.{localTo, anchorOf, packLattice, packAround}
-use Rattle.scatter.specs.LowDiscrepancy.{Anchor, none, some, loneAnchor, packScatter}
+use Rattle.scatter.specs.declared.low.Anchor.{Anchor}
+use Rattle.scatter.specs.declared.low.Anchor.the-variants.{Nowhere, At}
+use Rattle.scatter.specs.LowDiscrepancy.{loneAnchor, packScatter}
 use Rattle.scatter.specs.Random.{packRandomPiece}
 use Rattle.discs.specs.declared.options.GlyphOptions.{GlyphOptions}
 use Rattle.discs.specs.Region.{Zone, quotas, deepestOf, packUniformPiece, packLowDiscrepancyPiece, packPiece, packPieces, packRegion}
@@ -100,7 +102,7 @@ module _ (ctx : PackCtx) (policy : ObstaclePolicy) (strict : policy ≡ Strict �
     unfolding loneAnchor
     lone-fits x y s = go (eqb quota 1)
       where
-        go : (t : Bool) → AnchorFits (cond t (some (escapeObstacles (point x y) piece near (inset ctx))) none)
+        go : (t : Bool) → AnchorFits (cond t (At (escapeObstacles (point x y) piece near (inset ctx))) Nowhere)
         go true =
             let e = escape-sited piece near (inset ctx) (m .number) (m .sited) (point x y) s in
             record { across = e .across .num .fit; along = e .along .num .fit }
@@ -108,8 +110,8 @@ module _ (ctx : PackCtx) (policy : ObstaclePolicy) (strict : policy ≡ Strict �
 
     low-kept : (d : Deepest) → SitedAt d → Claimed (packLowDiscrepancyPiece d piece quota ctx pillars)
     unfolding packLowDiscrepancyPiece
-    low-kept Nothing s = from-kept none tt
-    low-kept Full s = from-kept none tt
+    low-kept Nothing s = from-kept Nowhere tt
+    low-kept Full s = from-kept Nowhere tt
     low-kept (Found x y d) s = from-kept (loneAnchor (point x y) piece quota ctx pillars) (lone-fits x y s)
 
     -- ONE PIECE, whichever the arrangement

@@ -20,7 +20,9 @@ use Rattle.regions.specs.Clearance.{signedClearance}
 use Rattle.lattice.specs.declared.context.PackCtx.{PackCtx}
 use Rattle.lattice.specs.Context.{inset, spacing}
 use Rattle.lattice.specs.Escape.{point, squaredDistance}
-use Rattle.scatter.specs.LowDiscrepancy.{Anchor, none, some, budget, candidate, apart, admits, pass, passes}
+use Rattle.scatter.specs.declared.low.Anchor.{Anchor}
+use Rattle.scatter.specs.declared.low.Anchor.the-variants.{Nowhere, At}
+use Rattle.scatter.specs.LowDiscrepancy.{budget, candidate, apart, admits, pass, passes}
 use Rattle.scatter.specs.Random.{Thrown, Dart, hit, miss, afterDart, lands, throw, glyphs, throws}
 use Rattle.claims.specs.Kept.{Unblocked, Fits, Stands, Kept, none-kept, less-kept}
 
@@ -48,16 +50,16 @@ more-kept piece clear near R honor placed p k r i u =
 
 -- ---- low discrepancy
 abbrev pub AnchorFits : Anchor → Type 0
-AnchorFits none = Unit {0}
-AnchorFits (some p) = Fits p
+AnchorFits Nowhere = Unit {0}
+AnchorFits (At p) = Fits p
 
 candidate-fits :
     (piece : Piece) (n : ℕ) (ctx : PackCtx) (near : List Rectangle) (anchor : Anchor) (min-x max-x min-y max-y : Float) (index : ℕ) → AnchorFits anchor
     → Fits (candidate piece n ctx near anchor min-x max-x min-y max-y index)
 unfolding candidate
-candidate-fits piece n ctx near none min-x max-x min-y max-y index f = record { across = add-fits binary64 _ _; along = add-fits binary64 _ _ }
-candidate-fits piece n ctx near (some p) min-x max-x min-y max-y zero f = f
-candidate-fits piece n ctx near (some p) min-x max-x min-y max-y (suc index) f = record { across = add-fits binary64 _ _; along = add-fits binary64 _ _ }
+candidate-fits piece n ctx near Nowhere min-x max-x min-y max-y index f = record { across = add-fits binary64 _ _; along = add-fits binary64 _ _ }
+candidate-fits piece n ctx near (At p) min-x max-x min-y max-y zero f = f
+candidate-fits piece n ctx near (At p) min-x max-x min-y max-y (suc index) f = record { across = add-fits binary64 _ _; along = add-fits binary64 _ _ }
 
 module _ (piece : Piece) (n : ℕ) (ctx : PackCtx) (near : List Rectangle) (anchor : Anchor) (min-x max-x min-y max-y : Float) (held : AnchorFits anchor) where
   -- the computed test of a mark q and a later one p

@@ -1,0 +1,5 @@
+mod Packed
+mod Turns
+mod Written
+mod Zones
+mod Halving
