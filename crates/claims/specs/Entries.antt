@@ -30,7 +30,7 @@ exact-fit (p ∷ ps) e = (e .0 .across .fit, (e .0 .along .fit, exact-fit ps (e 
 
 module _ (options : GlyphOptions) (pillars : List Rectangle) (radius : Float) where
   -- the spots of all pieces
-  pub own-few : (pieces : List Piece) (quotas : List ℕ) (spots : List (List Point)) → OwnPieces options pillars radius pieces quotas spots → length (flatten spots) ≤ sum quotas
+  own-few : (pieces : List Piece) (quotas : List ℕ) (spots : List (List Point)) → OwnPieces options pillars radius pieces quotas spots → length (flatten spots) ≤ sum quotas
   unfolding flatten weigh
   own-few pieces quotas [] h = omega arith
   own-few [] quotas (spots ∷ later) h = absurd h

@@ -7,8 +7,11 @@ use Prim.Native.Nat.{ℕ, suc, _+_, _*_, _≤_}
 use native.Mathlib.Omega.{arith}
 use lib.ListN.{length, length-append}
 use lib.Ieee.{Float}
+use Rattle.laws.specs.Sorted.{weigh}
+use Rattle.glyphs.specs.declared.rect.Point.{Point}
 use Rattle.glyphs.specs.declared.rect.Rectangle.{Rectangle}
 use Rattle.glyphs.specs.Spots.{length-flat}
+use Rattle.regions.specs.Ring.{Piece}
 use Rattle.discs.specs.declared.options.GlyphOptions.{GlyphOptions}
 use Rattle.discs.specs.Region.{Zone, quotas}
 use Rattle.discs.specs.PlaceGlyphs.{Placed, leftIn, workOf}
@@ -18,11 +21,17 @@ use Rattle.sheet.specs.Back.{length-placement, length-sheet-head}
 use Rattle.job.specs.Job.{Job, jobOf, zonesRoom, sheetRoom}
 use Rattle.job.specs.Known.{ZoneKnown, marksOf, JobKnown}
 use Rattle.job.specs.Plan.{placementsOf, placementOf, sheetFor}
-use Rattle.claims.specs.Claim.{SheetKept, Zones}
-use Rattle.claims.specs.Entries.{own-few}
-use Rattle.claims.specs.HandOut.{assigned-sum}
+use Rattle.claims.specs.Claim.{SheetKept, OwnPieces, Zones}
+use Rattle.claims.specs.HandOut.{sum, assigned-sum}
 
 module _ (options : GlyphOptions) (pillars : List Rectangle) (radius : Float) where
+  own-few : (pieces : List Piece) (quotas : List ℕ) (spots : List (List Point)) → OwnPieces options pillars radius pieces quotas spots → length (flatten spots) ≤ sum quotas
+  unfolding flatten weigh
+  own-few pieces quotas [] h = omega arith
+  own-few [] quotas (spots ∷ later) h = absurd h
+  own-few (piece ∷ pieces) [] (spots ∷ later) h = absurd h
+  own-few (piece ∷ pieces) (quota ∷ quotas) (spots ∷ later) h = rw (length-append spots (flatten later)) (omega (arith, h .0 .within, own-few pieces quotas later (h .1)))
+
   zones-short : (ps : List Placed) (entries : List Placement) → Zones options pillars radius ps entries → length (flatMap placementBytes (map placementOf ps)) ≤ zonesRoom (map (λ (placed : Placed). placed .zone) ps)
   unfolding flatMap placementOf zonesRoom
   zones-short [] [] h = omega arith
@@ -31,7 +40,7 @@ module _ (options : GlyphOptions) (pillars : List Rectangle) (radius : Float) wh
   zones-short (p ∷ ps) (e ∷ es) h =
       let z = p .zone in
       rw (length-append (placementBytes (placementOf p)) (flatMap placementBytes (map placementOf ps)))
-      (omega (arith, length-placement (placementOf p), length-flat (flatten (p .spots)), own-few options pillars radius (z .pieces) (quotas z) (p .spots) (h .0 .pieces), assigned-sum (quotas z), h .0 .quotas-sum, zones-short ps es (h .1)))
+      (omega (arith, length-placement (placementOf p), length-flat (flatten (p .spots)), own-few (z .pieces) (quotas z) (p .spots) (h .0 .pieces), assigned-sum (quotas z), h .0 .quotas-sum, zones-short ps es (h .1)))
 
 pub sheet-short : (s bytes : List ℕ) → SheetKept s bytes → length (sheetOf (sheetFor (placementsOf (jobOf s)))) ≤ sheetRoom (jobOf s)
 unfolding sheetOf sheetFor sheetRoom
