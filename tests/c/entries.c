@@ -19,6 +19,27 @@ static int bits_are(double x, uint64_t bits) {
     return b == bits;
 }
 
+/* The scope's worked job and its sheet, and refusals for what is lent. */
+static void expect_plans(void) {
+    static const uint8_t job[81] = {[3] = 0x4d, [4] = 1, [7] = 1, [10] = 4, [23] = 4, [40] = 1, [41] = 1, [42] = 'A',
+        [44] = 1, [45] = 1, [46] = 1, [48] = 4, [59] = 0x28, [67] = 0x28, [71] = 0x28, [79] = 0x28};
+    static const uint8_t given[37] = {[3] = 0x21, [4] = 1, [5] = 0x3f, [6] = 0xf0, [14] = 1, [15] = 1, [16] = 'A',
+        [18] = 1, [21] = 0x40, [22] = 0x14, [29] = 0x40, [30] = 0x14};
+    static double first[8001], second[8001];
+    uint8_t sheet[64];
+    uint32_t answer[4] = {9, 9, 9, 9};
+    memset(sheet, 7, sizeof sheet);
+    first[8000] = second[8000] = 7;
+    expect(marks_plan(job, 4, first, 8000, second, 8000, sheet, 64, answer) == 0 && answer[0] == 1, "a job of 4 bytes");
+    expect(answer[1] == 0 && answer[2] == 0 && sheet[0] == 7, "what a refusal leaves");
+    expect(marks_plan(job, 81, first, 7999, second, 8000, sheet, 64, answer) == 0 && answer[0] == 2, "a short work slice");
+    expect(marks_plan(job, 81, first, 8000, second, 8000, sheet, 36, answer) == 0 && answer[0] == 14, "a short buffer");
+    expect(marks_plan(job, 81, first, 8000, second, 8000, sheet, 64, answer) == 37 && answer[0] == 0, "the worked job");
+    expect(memcmp(sheet, given, 37) == 0 && sheet[37] == 7, "the worked sheet");
+    expect(answer[1] == 0 && answer[2] == 0 && answer[3] == 9, "the worked job's trials");
+    expect(bits_are(first[0], 0) && first[8000] == 7 && bits_are(second[7999], 0) && second[8000] == 7, "the work slices");
+}
+
 int main(void) {
     expect(bits_are(marks_root(2.0), 0x3FF6A09E667F3BCDu), "root of 2");
     expect(bits_are(marks_root(-0.0), 0x8000000000000000u), "root of -0");
@@ -43,6 +64,7 @@ int main(void) {
     w[2] = NAN;
     expect(marks_quotas(5, w, 3, q, 4) == 0 && q[0] == 5 && q[1] == 0 && q[2] == 0 && q[3] == 7, "a NaN");
     expect(marks_quotas(5, w, 0, q, 0) == 0 && q[0] == 5, "no weights");
+    expect_plans();
     printf(failed ? "entries for C: failed\n" : "entries for C: all equal\n");
     return failed;
 }
