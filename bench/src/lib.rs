@@ -1,4 +1,5 @@
 //! What the programs share: random bits, a ring, and the time of a call.
+pub mod floors;
 pub mod packing;
 
 use std::f64::consts::TAU;
@@ -44,7 +45,15 @@ pub fn time<T: Copy, R>(values: &[T], f: impl Fn(T) -> R) -> f64 {
     best
 }
 
+fn scaled(ns: f64) -> String {
+    match ns {
+        _ if ns < 1e4 => format!("{ns:.2} ns"),
+        _ if ns < 1e7 => format!("{:.2} us", ns / 1e3),
+        _ => format!("{:.2} ms", ns / 1e6),
+    }
+}
+
 /// A line of the table: the other's time, ours, and how many times as fast we are.
 pub fn line(name: &str, other: f64, ours: f64) {
-    println!("{name:<44} {other:>9.2} ns {ours:>9.2} ns {:>7.2}", other / ours);
+    println!("{name:<56} {:>12} {:>12} {:>7.2}", scaled(other), scaled(ours), other / ours);
 }

@@ -12,7 +12,7 @@ fn main() {
         ("every exponent", |b| f64::from_bits(b >> 1 & 0x7fef_ffff_ffff_ffff)),
         ("subnormal", |b| f64::from_bits(b >> 12)),
     ];
-    println!("{:<44} {:>12} {:>12} {:>7}", "root", "hardware", "ours", "times");
+    println!("{:<56} {:>12} {:>12} {:>7}", "root", "hardware", "ours", "times");
     for (name, make) in kinds {
         let values: Vec<f64> = (0..1_000_000).map(|_| make(bits.draw())).collect();
         line(name, time(&values, |x| x.sqrt()), time(&values, |x| unsafe { marks_root(x) }));

@@ -145,7 +145,7 @@ fn relaxation(zone: &Zone, thrown: &[Point], radius: f64) {
 
 fn main() {
     let mut bits = Bits(0x9e37_79b9_7f4a_7c15);
-    println!("{:<44} {:>12} {:>12} {:>7}", "one zone", "Rust", "ours", "times");
+    println!("{:<56} {:>12} {:>12} {:>7}", "one zone", "Rust", "ours", "times");
     for quota in [100, 500, 1_100, 2_000] {
         low_discrepancy(quota, 8, &mut bits);
         low_discrepancy(quota, 64, &mut bits);

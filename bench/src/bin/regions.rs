@@ -43,7 +43,7 @@ unsafe extern "C" {
 
 fn main() {
     let mut bits = Bits(0x9e37_79b9_7f4a_7c15);
-    println!("{:<44} {:>12} {:>12} {:>7}", "clearance", "Rust", "ours", "times");
+    println!("{:<56} {:>12} {:>12} {:>7}", "clearance", "Rust", "ours", "times");
     for n in [4, 16, 64, 256] {
         let rings = vec![star(n, &mut bits)];
         let piece = judge::piece_of(&rings);
