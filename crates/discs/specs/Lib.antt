@@ -1,4 +1,5 @@
 pub mod Region
+pub mod Searches
 pub mod Radius
 pub mod PlaceGlyphs
 pub mod Floor

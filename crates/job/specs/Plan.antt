@@ -1,28 +1,21 @@
 -- The call, from job bytes to sheet: the number of its refusal, its answer, and what the lent slices hold after it. Definitions only.
 use Prim.Native.Nat.{ℕ, _-_}
-use mathlib.Core.Bool.{Bool, true, false, not, cond, _&&_, _||_}
-use mathlib.Core.List.{List, [], _∷_, map, flatten}
+use mathlib.Core.Bool.{cond, _||_}
+use mathlib.Core.List.{List, map, flatten}
 use lib.ListN.{length, replicate}
-use lib.Dec.{ltb, eqb}
+use lib.Dec.{eqb}
 use lib.Ieee.{Float}
 use Rattle.laws.specs.Any.{all}
 use Rattle.laws.specs.Lists.{written}
-use Rattle.float.specs.Ops.{_>ᶠ_, _≥ᶠ_, 0ᶠ, 2ᶠ, literal}
-use Rattle.glyphs.specs.Bounds.{ringBounds}
+use Rattle.float.specs.Ops.{_≥ᶠ_, 0ᶠ, 2ᶠ, literal}
 use Rattle.glyphs.specs.Rect.{rectangles}
 use Rattle.glyphs.specs.Spots.{flat}
-use Rattle.glyphs.specs.declared.bounds.Bounds.{Bounds}
-use Rattle.glyphs.specs.declared.bounds.Bounds.the-variants.{Box, Nothing as Unbounded}
-use Rattle.glyphs.specs.declared.options.GlyphArrangement.{GlyphArrangement}
-use Rattle.glyphs.specs.declared.options.GlyphArrangement.the-variants.{Uniform, Rectangular, LowDiscrepancy, Random}
-use Rattle.regions.specs.Ring.{Piece, outer}
-use Rattle.deepest.specs.declared.search.Deepest.{Deepest}
-use Rattle.deepest.specs.declared.search.Deepest.the-variants.{Found, Nothing, Full}
 use Rattle.relax.specs.declared.Spreading.{Spreading}
 use Rattle.discs.specs.declared.options.GlyphOptions.{GlyphOptions}
 use Rattle.discs.specs.declared.options.Radius.{Radius}
 use Rattle.discs.specs.declared.options.Radius.the-variants.{Auto, Stated}
-use Rattle.discs.specs.Region.{Zone, quotas, deepestOf, placedIn}
+use Rattle.discs.specs.Region.{Zone, quotas, placedIn}
+use Rattle.discs.specs.Searches.{searchesIn, hadRoom}
 use Rattle.discs.specs.Radius.{Chosen, none, some, boundaryGapOf, analyticRHi}
 use Rattle.discs.specs.PlaceGlyphs.{Placed, Placements, workOf, placeGlyphs}
 use Rattle.format.specs.Rows.{_unless_, _orElse_}
@@ -36,38 +29,9 @@ use Rattle.job.specs.Job.{Job, jobOf, itemsFault, sheetFault}
 abbrev pub room : ℕ
 room = 1600
 
-unfoldable pub hasBounds : Bounds → Bool
-hasBounds Unbounded = false
-hasBounds (Box min-x max-x min-y max-y) = true
-
--- at a radius, a packer starts from the deepest point: a lattice where it places marks, low discrepancy for a lone mark, Random never
-unfoldable pub startsDeepest : GlyphArrangement → Piece → ℕ → Bool
-startsDeepest Uniform piece quota = ltb 0 quota
-startsDeepest Rectangular piece quota = ltb 0 quota
-startsDeepest LowDiscrepancy piece quota = eqb quota 1 && hasBounds (ringBounds (outer piece))
-startsDeepest Random piece quota = false
-
--- the ceiling of an automatic radius asks for the deepest point of each piece
-unfoldable pub isSearched : Radius → GlyphArrangement → Piece → ℕ → Bool
-isSearched Auto arrangement piece quota = true
-isSearched (Stated r) arrangement piece quota = r >ᶠ 0ᶠ && startsDeepest arrangement piece quota
-
-unfoldable pub isFull : Deepest → Bool
-isFull Full = true
-isFull Nothing = false
-isFull (Found x y clearance) = false
-
-unfoldable pub overflows : GlyphOptions → Piece → ℕ → Bool
-overflows options piece quota =
-    isSearched (options .radius) (options .arrangement) piece quota && isFull (deepestOf room options piece)
-
-unfoldable pub piecesFit : GlyphOptions → List Piece → List ℕ → Bool
-piecesFit options [] quotas = true
-piecesFit options (piece ∷ pieces) [] = true
-piecesFit options (piece ∷ pieces) (quota ∷ quotas) = not (overflows options piece quota) && piecesFit options pieces quotas
-
 unfoldable pub searchFault : Job → ℕ
-searchFault job = 15 unless all (λ (zone : Zone). piecesFit (job .options) (zone .pieces) (quotas zone)) (workOf (job .zones))
+searchFault job =
+    15 unless all (λ (zone : Zone). all hadRoom (searchesIn room (job .options) (zone .pieces) (quotas zone))) (workOf (job .zones))
 
 -- ---- row 16, the ceiling, which only an automatic radius has
 
