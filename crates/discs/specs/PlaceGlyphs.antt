@@ -1,7 +1,7 @@
 -- discs.rs, `place_glyphs`: the radius, the trials made for it, and the spots of each piece. Definitions only.
 use mathlib.Core.Bool.{Bool, true, false, cond, _&&_}
 use mathlib.Core.List.{List, [], _∷_, map}
-use Prim.Native.Nat.{ℕ, zero}
+use Prim.Native.Nat.{ℕ}
 use lib.Dec.{eqb, ltb}
 use lib.ListN.{length}
 use lib.Ieee.{Float}
@@ -14,8 +14,13 @@ use Rattle.glyphs.specs.declared.options.ObstaclePolicy.the-variants.{BestEffor
 use Rattle.glyphs.specs.declared.rect.Point.{Point}
 use Rattle.glyphs.specs.declared.rect.Rectangle.{Rectangle}
 use Rattle.relax.specs.declared.Spreading.{Spreading}
-use Rattle.discs.specs.Radius.{Chosen, none, some, Search, boundaryGapOf, contextAt, analyticRHi, autoRadius}
+use Rattle.discs.specs.Radius.{boundaryGapOf, contextAt, analyticRHi, feasible, autoRadius}
 use Rattle.discs.specs.Region.{Zone, packRegion}
+use Rattle.discs.specs.declared.ceiling.Chosen.{Chosen}
+use Rattle.discs.specs.declared.ceiling.Chosen.the-variants.{None, Some}
+use Rattle.discs.specs.declared.radius.Size.{Size}
+use Rattle.discs.specs.declared.radius.Sizing.{Sizing}
+use Rattle.discs.specs.declared.radius.Sizing.the-variants.{Unplaced, At}
 use Rattle.discs.specs.declared.options.GlyphOptions.{GlyphOptions}
 use Rattle.discs.specs.declared.options.Radius.{Radius}
 use Rattle.discs.specs.declared.options.Radius.the-variants.{Auto, Stated}
@@ -45,8 +50,25 @@ workOf (zone ∷ zones) = cond (leftIn zone) (zone ∷ workOf zones) (workOf zon
 
 -- unwrap_or
 abbrev pub orElse : Chosen → Float → Float
-orElse none other = other
-orElse (some r) other = r
+orElse None other = other
+orElse (Some r) other = r
+
+-- given `feasible` for obstacles
+module _ (fits : List Rectangle → Float → Bool) (obstacles : List Rectangle) where
+  -- under a ceiling: free of obstacles, then with them down to half of that
+  unfoldable pub sizeUnder : Float → Size
+  sizeUnder r-hi =
+      let free = autoRadius (fits []) r-hi in
+      let r-free = orElse (free .best) (¼ᶠ *ᶠ r-hi) in
+      let walled = autoRadius (fits obstacles) r-hi in
+      cond (eqb (length obstacles) 0) (record { radius = r-free; «free_trials» = free .trials; «obstacle_trials» = 0 })
+      (record { radius = max (orElse (walled .best) 0ᶠ) (½ᶠ *ᶠ r-free); «free_trials» = free .trials; «obstacle_trials» = walled .trials })
+
+  -- match options.radius, with the ceiling of an automatic one
+  unfoldable pub sizeFor : Radius → Chosen → Sizing
+  sizeFor (Stated r) ceiling = cond (r >ᶠ 0ᶠ && isFinite r) (At (record { radius = r; «free_trials» = 0; «obstacle_trials» = 0 })) Unplaced
+  sizeFor Auto None = Unplaced
+  sizeFor Auto (Some r-hi) = At (sizeUnder r-hi)
 
 -- PACK, strict where the policy is
 abbrev pub pack : GlyphOptions → PackMode
@@ -68,32 +90,19 @@ module _ (room : ℕ) (numbers : Spreading) (options : GlyphOptions) (given : Li
   abbrev pub unplaced : Placements
   unplaced = record { radius = 0ᶠ; freeTrials = 0; obstacleTrials = 0; zones = map (λ (zone : Zone). record { zone = zone; spots = [] }) work }
 
-  unfoldable pub packAt : Float → ℕ → ℕ → Placements
-  packAt radius free-trials obstacle-trials =
+  unfoldable pub packAt : Sizing → Placements
+  packAt Unplaced = unplaced
+  packAt (At size) =
       record {
-        radius = radius;
-        freeTrials = free-trials;
-        obstacleTrials = obstacle-trials;
-        zones = map (λ (zone : Zone). record { zone = zone; spots = packRegion room numbers options (contextAt options (pack options) radius) obstacles zone }) work;
+        radius = size .radius;
+        freeTrials = size .«free_trials»;
+        obstacleTrials = size .«obstacle_trials»;
+        zones = map (λ (zone : Zone). record { zone = zone; spots = packRegion room numbers options (contextAt options (pack options) (size .radius)) obstacles zone }) work;
       }
 
-  -- under a ceiling: free of obstacles, then with them down to half of that
-  unfoldable pub packUnder : Float → Placements
-  packUnder r-hi =
-      let free = autoRadius room numbers options [] work r-hi in
-      let r-free = orElse (free .best) (¼ᶠ *ᶠ r-hi) in
-      let walled = autoRadius room numbers options obstacles work r-hi in
-      cond (eqb (length obstacles) 0) (packAt r-free (free .trials) 0)
-      (packAt (max (orElse (walled .best) 0ᶠ) (½ᶠ *ᶠ r-free)) (free .trials) (walled .trials))
-
   -- where some zone is left in
-  unfoldable pub placeWork : Radius → Placements
-  placeWork (Stated r) = cond (r >ᶠ 0ᶠ && isFinite r) (packAt r 0 0) unplaced
-  placeWork Auto = under (analyticRHi room work (boundaryGapOf options) (options .precision))
-    where
-      under : Chosen → Placements
-      under none = unplaced
-      under (some r-hi) = packUnder r-hi
+  unfoldable pub sizing : Sizing
+  sizing = sizeFor (feasible room numbers options work) obstacles (options .radius) (analyticRHi room work (boundaryGapOf options) (options .precision))
 
   -- where none is: the stated radius, or 0
   abbrev pub statedRadius : Radius → Float
@@ -103,4 +112,4 @@ module _ (room : ℕ) (numbers : Spreading) (options : GlyphOptions) (given : Li
   unfoldable pub placeGlyphs : Placements
   placeGlyphs =
       cond (eqb (length work) 0) (record { radius = statedRadius (options .radius); freeTrials = 0; obstacleTrials = 0; zones = [] })
-      (placeWork (options .radius))
+      (packAt sizing)

@@ -19,6 +19,9 @@ use Rattle.relax.specs.declared.Spreading.{Spreading}
 use Rattle.discs.specs.Region.{Zone, areas, packRegion, placedIn}
 use Rattle.lattice.specs.Uniform.{1e-3ᶠ}
 use Rattle.lattice.specs.declared.context.PackCtx.{PackCtx}
+use Rattle.discs.specs.declared.ceiling.Chosen.{Chosen}
+use Rattle.discs.specs.declared.ceiling.Chosen.the-variants.{None, Some}
+use Rattle.discs.specs.declared.radius.Search.{Search}
 use Rattle.discs.specs.declared.options.GlyphOptions.{GlyphOptions}
 use Rattle.discs.specs.declared.options.BoundaryGap.{BoundaryGap}
 use Rattle.discs.specs.declared.options.BoundaryGap.the-variants.{Follows, Own}
@@ -26,11 +29,6 @@ use Rattle.discs.specs.declared.options.BoundaryGap.the-variants.{Follow
 -- PI
 abbrev pub π : Float
 π = literal 0x4009_21fb_5444_2d18
-
--- `Option<f64>`
-pub data Chosen : Type 0 where
-  none : Chosen
-  some : Float → Chosen
 
 -- ---- the gaps
 
@@ -51,22 +49,24 @@ contextAt options mode r = record { r = r; gap = gapOf options; «boundary_gap»
 
 -- ---- the ceiling
 
--- one zone's bounds: its deepest point, and its area
-unfoldable pub lowered : ℕ → Float → Float → Float → Zone → Float
-lowered room gap precision r-hi zone = bound (poiWithHoles room precision (zone .pieces))
-  where
-    area : Float
-    area = foldl _+ᶠ_ -0ᶠ (areas (zone .pieces))
+-- pieces.iter().map(|p| p.area()).sum(), which starts at -0.0
+unfoldable pub areaOf : List Piece → Float
+areaOf pieces = foldl _+ᶠ_ -0ᶠ (areas pieces)
 
-    bound : Deepest → Float
-    bound Nothing = r-hi
-    bound Full = r-hi
-    bound (Found x y clearance) = min (min r-hi (clearance /ᶠ (1ᶠ +ᶠ gap))) (sqrt (area /ᶠ (as-f64 (zone .count) *ᶠ π)))
+-- one zone's bounds: its deepest point, and its area
+unfoldable pub lowered : Float → Float → Zone → Deepest → Float
+lowered gap r-hi zone Nothing = r-hi
+lowered gap r-hi zone Full = r-hi
+lowered gap r-hi zone (Found x y clearance) =
+    min (min r-hi (clearance /ᶠ (1ᶠ +ᶠ gap))) (sqrt (areaOf (zone .pieces) /ᶠ (as-f64 (zone .count) *ᶠ π)))
+
+-- (r_hi.is_finite() && r_hi > 0.0).then_some(r_hi)
+unfoldable pub ifPositive : Float → Chosen
+ifPositive r-hi = cond (isFinite r-hi && r-hi >ᶠ 0ᶠ) (Some r-hi) None
 
 unfoldable pub analyticRHi : ℕ → List Zone → Float → Float → Chosen
 analyticRHi room work gap precision =
-    let r-hi = foldl (lowered room gap precision) ∞ work in
-    cond (isFinite r-hi && r-hi >ᶠ 0ᶠ) (some r-hi) none
+    ifPositive (foldl (λ r-hi zone. lowered gap r-hi zone (poiWithHoles room precision (zone .pieces))) ∞ work)
 
 -- ---- the search
 
@@ -74,22 +74,20 @@ analyticRHi room work gap precision =
 abbrev pub probe : PackMode
 probe = record { spread = false; «strict_obstacles» = true }
 
--- the radius found, and how many trials were made
-pub record Search : Type 0 where
-  pub best : Chosen
-  pub trials : ℕ
+-- let feasible = |r: f64|
+unfoldable pub feasible : ℕ → Spreading → GlyphOptions → List Zone → List Rectangle → Float → Bool
+feasible room numbers options work obstacles r =
+    all (λ (zone : Zone). eqb (placedIn (packRegion room numbers options (contextAt options probe r) obstacles zone)) (zone .count)) work
 
-module _ (room : ℕ) (numbers : Spreading) (options : GlyphOptions) (obstacles : List Rectangle) (work : List Zone) (r-hi : Float) where
-  unfoldable pub feasible : Float → Bool
-  feasible r = all (λ (zone : Zone). eqb (placedIn (packRegion room numbers options (contextAt options probe r) obstacles zone)) (zone .count)) work
-
+-- given `feasible`
+module _ (fits : Float → Bool) (r-hi : Float) where
   -- for _ in 0..24, after `made` trials
   unfoldable pub halve : ℕ → Float → Float → Chosen → ℕ → Search
   halve zero lo hi best made = record { best = best; trials = made }
   halve (suc turns) lo hi best made =
       let mid = ½ᶠ *ᶠ (lo +ᶠ hi) in
       cond (hi -ᶠ lo ≤ᶠ 1e-3ᶠ *ᶠ r-hi) (record { best = best; trials = made })
-      (cond (feasible mid) (halve turns mid hi (some mid) (made + 1)) (halve turns lo mid best (made + 1)))
+      (cond (fits mid) (halve turns mid hi (Some mid) (made + 1)) (halve turns lo mid best (made + 1)))
 
   unfoldable pub autoRadius : Search
-  autoRadius = cond (feasible r-hi) (record { best = some r-hi; trials = 1 }) (halve 24 0ᶠ r-hi none 1)
+  autoRadius = cond (fits r-hi) (record { best = Some r-hi; trials = 1 }) (halve 24 0ᶠ r-hi None 1)

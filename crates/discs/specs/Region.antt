@@ -18,7 +18,8 @@ use Rattle.regions.specs.Area.{pieceArea}
 use Rattle.relax.specs.declared.Spreading.{Spreading}
 use Rattle.lattice.specs.Escape.{point}
 use Rattle.lattice.specs.Uniform.{packAround}
-use Rattle.scatter.specs.LowDiscrepancy.{Anchor, none, loneAnchor, packScatter}
+use Rattle.scatter.specs.LowDiscrepancy.{loneAnchor, packScatter}
+use Rattle.scatter.specs.declared.low.Anchor.the-variants.{Nowhere}
 use Rattle.deepest.specs.declared.search.Deepest.{Deepest}
 use Rattle.deepest.specs.declared.search.Deepest.the-variants.{Found, Nothing, Full}
 use Rattle.deepest.specs.Deepest.{poiWithHoles}
@@ -51,8 +52,8 @@ packUniformPiece (Found x y clearance) piece n ctx obstacles rectangular = packA
 
 -- pack_low_discrepancy_piece, from the deepest point, which only a lone mark asks for
 unfoldable pub packLowDiscrepancyPiece : Deepest → Piece → ℕ → PackCtx → List Rectangle → List Point
-packLowDiscrepancyPiece Nothing piece n ctx obstacles = packScatter none piece n ctx obstacles
-packLowDiscrepancyPiece Full piece n ctx obstacles = packScatter none piece n ctx obstacles
+packLowDiscrepancyPiece Nothing piece n ctx obstacles = packScatter Nowhere piece n ctx obstacles
+packLowDiscrepancyPiece Full piece n ctx obstacles = packScatter Nowhere piece n ctx obstacles
 packLowDiscrepancyPiece (Found x y clearance) piece n ctx obstacles = packScatter (loneAnchor (point x y) piece n ctx obstacles) piece n ctx obstacles
 
 -- one piece, by the arrangement; only Random draws from the stream

@@ -1,2 +1,3 @@
 pub mod LowDiscrepancy
 pub mod Random
+pub mod Darts

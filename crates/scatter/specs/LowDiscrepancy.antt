@@ -24,6 +24,8 @@ use Rattle.lattice.specs.Context.{inset, spacing}
 use Rattle.lattice.specs.Escape.{point, squaredDistance, escapeObstacles}
 use Rattle.lattice.specs.Uniform.{localTo}
 use Rattle.lattice.specs.declared.context.PackCtx.{PackCtx}
+use Rattle.scatter.specs.declared.low.Anchor.{Anchor}
+use Rattle.scatter.specs.declared.low.Anchor.the-variants.{Nowhere, At}
 
 -- ---- cells
 
@@ -45,11 +47,6 @@ cellNumber low cell-size x = as-i64 (floor ((x -ᶠ low) /ᶠ cell-size))
 abbrev pub budget : ℕ → ℕ
 budget n = min (max (n * 100) 1024) 1000000
 
--- `anchor`: none, or the place of a lone mark
-pub data Anchor : Type 0 where
-  none : Anchor
-  some : Point → Anchor
-
 module _ (piece : Piece) (n : ℕ) (ctx : PackCtx) (near : List Rectangle) (anchor : Anchor) (min-x max-x min-y max-y : Float) where
   abbrev pub cellSize : Float
   cellSize = Float.max (spacing ctx) ε
@@ -62,9 +59,9 @@ module _ (piece : Piece) (n : ℕ) (ctx : PackCtx) (near : List Rectangle) (anch
       halton index = point (min-x +ᶠ (max-x -ᶠ min-x) *ᶠ radicalInverse (index + 1) 2) (min-y +ᶠ (max-y -ᶠ min-y) *ᶠ radicalInverse (index + 1) 3)
 
       first : ℕ → Anchor → Point
-      first index none = halton index
-      first zero (some p) = p
-      first (suc index) (some p) = halton (suc index)
+      first index Nowhere = halton index
+      first zero (At p) = p
+      first (suc index) (At p) = halton (suc index)
 
   -- a spot in one of the nine cells around the candidate's keeps the spacing
   unfoldable pub apart : Point → Point → Bool
@@ -103,4 +100,4 @@ packScatter anchor piece n ctx obstacles = cond (eqb n 0) [] (packWithin (ringBo
 
 -- (n == 1).then(|| the deepest point).map(escape_obstacles), from the deepest point
 unfoldable pub loneAnchor : Point → Piece → ℕ → PackCtx → List Rectangle → Anchor
-loneAnchor poi piece n ctx obstacles = cond (eqb n 1) (some (escapeObstacles poi piece (localTo piece obstacles (inset ctx)) (inset ctx))) none
+loneAnchor poi piece n ctx obstacles = cond (eqb n 1) (At (escapeObstacles poi piece (localTo piece obstacles (inset ctx)) (inset ctx))) Nowhere

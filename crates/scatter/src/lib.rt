@@ -1,1 +1,3 @@
 // discs.rs: the low-discrepancy and the random packer.
+pub mod low;
+pub mod random;

@@ -1,0 +1,40 @@
+use borrow.Author.Needs.{needs}
+use Rattle.discs.proofs.trial.boundary_gap_of.Statement.{statement}
+use Rattle.discs.proofs.trial.boundary_gap_of.Tie as tie
+use Rattle.discs.proofs.trial.boundary_gap_of.Reads as reads
+use Rattle.discs.proofs.trial.boundary_gap_of.Lts as lts
+use Rattle.discs.proofs.trial.gap_of.Reads as gap-of-reads
+use Rattle.float.proofs.max.Reads as max-reads
+
+enum-known-own : tie.Need-enum-known-own
+enum-known-own c = search needs
+
+enum-told : tie.Need-enum-told
+enum-told c = search needs
+
+gap-of-requires : tie.Need-gap-of-requires
+gap-of-requires c κs = search needs
+
+max-requires : tie.Need-max-requires
+max-requires c κs = search needs
+
+returns : tie.Need-returns
+returns c = search needs
+
+max-requires-2 : tie.Need-max-requires-2
+max-requires-2 c κs = search needs
+
+returns-2 : tie.Need-returns-2
+returns-2 c = search needs
+
+pub boundary-gap-of-spec : {M : Type 1} → statement M
+boundary-gap-of-spec =
+    tie.close
+    (tie.spec
+    enum-known-own
+    enum-told
+    gap-of-requires
+    max-requires
+    returns
+    max-requires-2
+    returns-2)
