@@ -11,12 +11,14 @@ use Rattle.float.specs.Ops.{_≥ᶠ_, 0ᶠ, 2ᶠ, literal}
 use Rattle.glyphs.specs.Rect.{rectangles}
 use Rattle.glyphs.specs.Spots.{flat}
 use Rattle.relax.specs.declared.Spreading.{Spreading}
+use Rattle.discs.specs.declared.ceiling.Chosen.{Chosen}
+use Rattle.discs.specs.declared.ceiling.Chosen.the-variants.{None, Some}
 use Rattle.discs.specs.declared.options.GlyphOptions.{GlyphOptions}
 use Rattle.discs.specs.declared.options.Radius.{Radius}
 use Rattle.discs.specs.declared.options.Radius.the-variants.{Auto, Stated}
 use Rattle.discs.specs.Region.{Zone, quotas, placedIn}
 use Rattle.discs.specs.Searches.{searchesIn, hadRoom}
-use Rattle.discs.specs.Radius.{Chosen, none, some, boundaryGapOf, analyticRHi}
+use Rattle.discs.specs.Radius.{boundaryGapOf, analyticRHi}
 use Rattle.discs.specs.PlaceGlyphs.{Placed, Placements, workOf, placeGlyphs}
 use Rattle.format.specs.Rows.{_unless_, _orElse_}
 use Rattle.sheet.specs.Sheet.{Placement, Sheet, sheetOf}
@@ -40,12 +42,12 @@ abbrev pub leastCeiling : Float
 leastCeiling = literal 0x3f50_0000_0000_0000
 
 unfoldable pub lowFault : Chosen → ℕ
-lowFault none = 0
-lowFault (some r-hi) = 16 unless (r-hi ≥ᶠ leastCeiling)
+lowFault None = 0
+lowFault (Some r-hi) = 16 unless (r-hi ≥ᶠ leastCeiling)
 
 unfoldable pub ceilingOf : GlyphOptions → List Zone → Radius → Chosen
 ceilingOf options work Auto = analyticRHi room work (boundaryGapOf options) (options .precision)
-ceilingOf options work (Stated r) = none
+ceilingOf options work (Stated r) = None
 
 unfoldable pub ceilingFault : Job → ℕ
 ceilingFault job = lowFault (ceilingOf (job .options) (workOf (job .zones)) (job .options .radius))
