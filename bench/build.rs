@@ -7,7 +7,9 @@ fn main() {
     let libraries = Path::new(&root).join("../target/staticlib");
     println!("cargo:rustc-link-search=native={}", libraries.display());
     println!("cargo:rustc-link-arg-bin=leaves=-l:libmarks.a");
+    println!("cargo:rustc-link-arg-bin=low_discrepancy=-l:libprobes.a");
     println!("cargo:rustc-link-arg-bin=regions=-l:libprobes.a");
+    println!("cargo:rustc-link-arg-bin=packers=-l:libprobes.a");
     for library in ["libmarks.a", "libprobes.a"] {
         println!("cargo:rerun-if-changed={}", libraries.join(library).display());
     }

@@ -1,4 +1,5 @@
-//! What the programs share: random bits, and the time of a call.
+//! What the programs share: random bits, a ring, and the time of a call.
+use std::f64::consts::TAU;
 use std::hint::black_box;
 use std::time::Instant;
 
@@ -16,6 +17,16 @@ impl Bits {
     pub fn unit(&mut self) -> f64 {
         (self.draw() >> 11) as f64 / (1u64 << 52) as f64 - 1.0
     }
+}
+
+/// A star of n vertices, in 1/1024, of radius up to 10.
+pub fn star(n: usize, bits: &mut Bits) -> Vec<[i32; 2]> {
+    (0..n)
+        .map(|k| {
+            let (r, a) = (10240.0 * (0.8 + 0.2 * bits.unit()), TAU * k as f64 / n as f64);
+            [(r * a.cos()) as i32, (r * a.sin()) as i32]
+        })
+        .collect()
 }
 
 /// Nanoseconds a call, the best of five rounds over all values.

@@ -28,6 +28,9 @@ double probe_signed_clearance(PIECE, double x, double y);
 /* Whether that is at least c; measured by bench/, and compared there. */
 _Bool probe_clearance_at_least(PIECE, double x, double y, double c);
 
+/* How many of the places have a clearance of at least c; measured by bench/, and compared there. */
+uint64_t probe_count_clear(PIECE, const double *places, size_t place_floats, double c);
+
 /* regions.rs point_in_polygon: 1 inside, 0 not. */
 uint8_t probe_point_in_polygon(const double *ring, size_t floats, double x, double y);
 

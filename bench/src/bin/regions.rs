@@ -1,8 +1,7 @@
 //! Clearances and deepest points on rings of several sizes, beside the Rust original.
-use bench::{Bits, line, time};
+use bench::{Bits, line, star, time};
 use oracle::judge;
 use oracle::plotting::glyphs::discs::layers;
-use std::f64::consts::TAU;
 
 unsafe extern "C" {
     fn probe_signed_clearance(
@@ -22,6 +21,15 @@ unsafe extern "C" {
         y: f64,
         c: f64,
     ) -> bool;
+    fn probe_count_clear(
+        sizes: *const u64,
+        rings: usize,
+        coords: *const f64,
+        floats: usize,
+        places: *const f64,
+        place_floats: usize,
+        c: f64,
+    ) -> u64;
     fn probe_depth(
         sizes: *const u64,
         rings: usize,
@@ -31,16 +39,6 @@ unsafe extern "C" {
         cells: *mut f64,
         cell_floats: usize,
     ) -> f64;
-}
-
-/// A star of n vertices, in 1/1024, of radius up to 10.
-fn star(n: usize, bits: &mut Bits) -> Vec<[i32; 2]> {
-    (0..n)
-        .map(|k| {
-            let (r, a) = (10240.0 * (0.8 + 0.2 * bits.unit()), TAU * k as f64 / n as f64);
-            [(r * a.cos()) as i32, (r * a.sin()) as i32]
-        })
-        .collect()
 }
 
 fn main() {
@@ -64,6 +62,22 @@ fn main() {
         };
         assert!(places.iter().all(|&p| at_least(p) == (rust(p) >= c) && ours(p).to_bits() == rust(p).to_bits()));
         line(&format!("at least {c}, {n} edges"), time(&places, |p| rust(p) >= c), time(&places, at_least));
+        let flat: Vec<[f64; 2_000]> = places
+            .chunks_exact(1_000)
+            .map(|p| std::array::from_fn(|k| p[k / 2][k % 2]))
+            .collect();
+        let counted = |p: &[f64; 2_000]| unsafe {
+            probe_count_clear(sizes.as_ptr(), 1, coords.as_ptr(), coords.len(), p.as_ptr(), p.len(), c)
+        };
+        let rust_counted =
+            |p: &[f64; 2_000]| p.chunks_exact(2).filter(|q| rust([q[0], q[1]]) >= c).count() as u64;
+        assert!(flat.iter().all(|p| counted(p) == rust_counted(p)));
+        let each: Vec<&[f64; 2_000]> = flat.iter().collect();
+        line(
+            &format!("at least {c}, margin kept, {n} edges"),
+            time(&each, rust_counted) / 1_000.0,
+            time(&each, counted) / 1_000.0,
+        );
         let mut cells = vec![0.0; 8_000];
         let lent = cells.as_mut_ptr();
         let rust = |p: f64| layers::deepest_point(&piece, p).0.map_or(0.0, |(_, d)| d);

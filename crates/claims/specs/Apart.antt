@@ -1,20 +1,20 @@
 -- Any two cells of a lattice walk are, in exact distance, at least its spacing less 2 ^ -30 apart.
 -- Rests on the rounding crate's law of two different cells, and on no cell being visited twice.
-use mathlib.Core.Path.{_≡_, refl, sym, ap, subst, _∙_}
-use mathlib.Core.Bool.{Bool, true, false, not, cond, _&&_}
+use mathlib.Core.Path.{_≡_, refl}
+use mathlib.Core.Bool.{Bool, true, false}
 use mathlib.Core.List.{List, [], _∷_, _++_, map, foldr}
-use Prim.Native.Nat.{ℕ, zero, suc, _+_, _-_, _*_, _%_, _≤_, _<_}
+use Prim.Native.Nat.{_+_, _-_, _*_, _≤_}
 use native.Mathlib.Omega.{arith}
-use lib.Dec.{T, eqb}
+use lib.Dec.{T}
 use lib.IntN.{ℤ, pos, negsuc}
 use lib.Signed.{leZ}
 use lib.Ieee.{Float}
 use Rattle.laws.specs.Every.{Every, every-append, every-map, Pairwise, pairwise-append}
-use Rattle.float.specs.Ops.{_+ᶠ_, _-ᶠ_, _*ᶠ_, _/ᶠ_, 2ᶠ}
+use Rattle.float.specs.Ops.{_+ᶠ_, _-ᶠ_, _*ᶠ_, _/ᶠ_}
 use Rattle.float.specs.Whole.{floor, ceil, as-i64}
 use Rattle.rounding.specs.Value.{U, mag}
 use Rattle.rounding.specs.Bounds.{Sized}
-use Rattle.rounding.specs.Distance.{Length, Spaced, spaced-sym}
+use Rattle.rounding.specs.Distance.{Length}
 use Rattle.rounding.specs.Row.{Step, length-step, row-law}
 use Rattle.rounding.specs.Steps.{Reach}
 use Rattle.rounding.specs.Walk.{across-walk, along-walk}
@@ -23,14 +23,8 @@ use Rattle.glyphs.specs.declared.rect.Point.{Point}
 use Rattle.lattice.specs.declared.context.Lattice.{Lattice}
 use Rattle.lattice.specs.Escape.{point}
 use Rattle.lattice.specs.Lattice.{remEuclid2, i64-as-f64, through, rowHeight, isShifted, rowOffset, rowCells, allCells}
+use Rattle.claims.specs.Kept.{Apart}
 use Rattle.claims.specs.Whole.{every-through, pairwise-through}
-
--- the exact distance of two places
-abbrev pub Apart : Float → Point → Point → Type 0
-Apart s p q = Spaced s (p .x) (p .y) (q .x) (q .y)
-
-pub apart-sym : (s : Float) (p q : Point) → Apart s p q → Apart s q p
-apart-sym s p q h = spaced-sym s (p .x) (p .y) (q .x) (q .y) h
 
 same-remainder : (j : ℤ) → remEuclid j 2 ≡ remEuclid2 j
 unfolding remEuclid remEuclid2

@@ -1,26 +1,25 @@
 -- No packer places more marks than it is asked for; that relaxation keeps their number is a law of its crate.
 -- Rests on the lengths of parts and sorted lists.
-use mathlib.Core.Path.{_≡_, refl, sym, ap, _∙_}
+use mathlib.Core.Path.{_≡_, refl, ap, _∙_}
 use mathlib.Core.Bool.{Bool, true, false, cond, _||_}
 use mathlib.Core.Logic.{inl, inr}
 use mathlib.Core.List.{List, [], _∷_, _++_}
 use Prim.Native.Nat.{ℕ, zero, suc, _+_, _-_, _<_, _≤_, Ordering, Ordering·lt, Ordering·eq, Ordering·gt}
 use native.Mathlib.Omega.{arith}
 use native.Mathlib.Nat.{eq-or-lt-of-le}
-use lib.Dec.{T, eqb, leb, eqb→eq}
+use lib.Dec.{eqb, leb}
 use lib.ListN.{length, take, length-append, length-take}
 use lib.Ieee.{Float}
-use borrow.Author.Tests.{lt-leb, le-leb, leb-false, eq-eqb, ne-eqb}
-use Rattle.laws.specs.Orders.{lt-or-le}
+use borrow.Author.Tests.{leb-false, eq-eqb, ne-eqb}
 use Rattle.laws.specs.Sort.{place, insert, sortBy}
 use Rattle.glyphs.specs.declared.rect.Point.{Point}
 use Rattle.glyphs.specs.declared.rect.Rectangle.{Rectangle}
 use Rattle.glyphs.specs.declared.stream.Stream.{Stream}
-use Rattle.glyphs.specs.declared.mode.PackMode.{PackMode}
 use Rattle.regions.specs.Ring.{Piece}
 use Rattle.lattice.specs.declared.context.PackCtx.{PackCtx}
 use Rattle.lattice.specs.Lattice.{HexCells, byAnchor, sortByAnchor, takeCells}
-use Rattle.scatter.specs.LowDiscrepancy.{Anchor, budget, candidate, admits, pass, passes}
+use Rattle.scatter.specs.declared.low.Anchor.{Anchor}
+use Rattle.scatter.specs.LowDiscrepancy.{budget, candidate, admits, pass, passes}
 use Rattle.scatter.specs.Random.{Thrown, Dart, hit, miss, afterDart, throw, glyphs, throws}
 
 -- ---- sorting

@@ -1,18 +1,18 @@
 -- Relaxation keeps what held of the marks: clearance, obstacles under Strict, and any two of them; and their number.
 -- Rests on every move being tested again, against all other marks where they stand.
-use mathlib.Core.Path.{_≡_, refl, sym, ap, subst, _∙_}
+use mathlib.Core.Path.{_≡_, subst}
 use mathlib.Core.Bool.{Bool, true, false, not, cond, _&&_, _||_}
 use mathlib.Core.List.{List, [], _∷_, map, foldl}
 use Prim.Native.Nat.{ℕ, zero, suc, _+_, _-_, _<_, _≤_}
 use native.Mathlib.Omega.{arith}
-use native.Mathlib.Numerals.{add-one}
-use lib.Dec.{T, eqb, eqb→eq}
-use lib.ListN.{length, getD, set, length-set, length-map}
-use lib.Ieee.{Float, nan, isNan, lt}
-use borrow.Author.Tests.{ne-eqb, eq-eqb}
+use lib.Dec.{T, eqb}
+use lib.ListN.{length, getD, set, length-set}
+use lib.Ieee.{Float, nan, binary64}
+use lib.Ieee.Fits.{add-fits}
+use borrow.Author.Tests.{ne-eqb}
 use Rattle.laws.specs.Every.{Every, Pairwise}
-use Rattle.laws.specs.Lists.{upTo, getD-map}
-use Rattle.float.specs.Ops.{_-ᶠ_, _*ᶠ_, _/ᶠ_, _<ᶠ_, _≤ᶠ_, _≥ᶠ_, 0ᶠ, 1ᶠ, ½ᶠ}
+use Rattle.laws.specs.Lists.{upTo}
+use Rattle.float.specs.Ops.{_*ᶠ_, _/ᶠ_, _<ᶠ_, _≤ᶠ_, _≥ᶠ_, 0ᶠ, 1ᶠ, ½ᶠ}
 use Rattle.float.specs.Order.{hypot, min}
 use Rattle.float.specs.Laws.Nan.{Number}
 use Rattle.float.specs.Laws.Compare.{not-lt-le}
@@ -29,7 +29,8 @@ use Rattle.relax.specs.declared.field.Acceptance.{Acceptance}
 use Rattle.relax.specs.declared.field.Acceptance.the-variants.{Clear, Refused}
 use Rattle.relax.specs.Field.{fieldOf, at, forceOn, accepts, clearOfOthers}
 use Rattle.relax.specs.Scatter.{Scatter, Surroundings, settle, stepped, tryStep, relaxPoint, maxStepOf, relaxSweep, relaxSweeps, clearancesOf, honoringOf, idle, relaxScatter}
-use Rattle.claims.specs.Walk.{Inset, Unblocked}
+use Rattle.claims.specs.Claim.{Inset}
+use Rattle.claims.specs.Kept.{Unblocked, Fits, Stands, Kept}
 
 -- ---- one element replaced
 every-set : {A : Type 0} (P : A → Type 0) (xs : List A) (i : ℕ) (c : A) → Every P xs → (i < length xs → P c) → Every P (set xs i c)
@@ -88,7 +89,7 @@ module _
   surroundings honoring = record { field = field; piece = piece; obstacles = obstacles; honoring = honoring }
 
   pub record Loose (honoring : List Bool) (s : Scatter) : Type 0 where
-    pub insets : Every (Inset piece inset) (s .points)
+    pub insets : Every (Stands piece inset) (s .points)
     pub unblocked : T strict → Every (Unblocked obstacles inset) (s .points)
     pub apart : Pairwise R (s .points)
     pub flags : (i : ℕ) → i < length (s .points) → T strict → T (getD honoring i false)
@@ -120,23 +121,24 @@ module _
 
   settled :
       (honoring : List Bool) (i : ℕ) (s : Scatter) (c : Point) (a : Acceptance) (otherwise : Scatter)
-      → Loose honoring s → Judged i (getD honoring i false) (s .points) c a → Loose honoring otherwise → Loose honoring (settle s i c a otherwise)
+      → Fits c → Loose honoring s → Judged i (getD honoring i false) (s .points) c a → Loose honoring otherwise → Loose honoring (settle s i c a otherwise)
   unfolding settle
-  settled honoring i s c (Clear d) otherwise l j o =
+  settled honoring i s c (Clear d) otherwise f l j o =
       record {
-        insets = every-set (Inset piece inset) (s .points) i c (l .insets) (λ h. j .clear);
+        insets = every-set (Stands piece inset) (s .points) i c (l .insets) (λ h. record { fits = f; deep = j .clear });
         unblocked = λ t. every-set (Unblocked obstacles inset) (s .points) i c (l .unblocked t) (λ h. j .free (l .flags i h t));
         apart = pairwise-set R both (s .points) i c (l .apart) (j .apart);
         flags = λ k h t. l .flags k (subst (λ (m : ℕ). k < m) (length-set (s .points) i c) h) t;
       }
-  settled honoring i s c Refused otherwise l j o = o
+  settled honoring i s c Refused otherwise f l j o = o
 
   tried : (honoring : List Bool) (i : ℕ) (p : Point) (ux uy : Float) (tries : ℕ) (step : Float) (s : Scatter) → Loose honoring s → Loose honoring (tryStep (surroundings honoring) i p ux uy tries step s)
   unfolding tryStep
   tried honoring i p ux uy zero step s l = l
   tried honoring i p ux uy (suc tries) step s l =
       let c = stepped p ux uy step in
-      settled honoring i s c (accepts field piece obstacles c i (s .points) (getD honoring i false)) (tryStep (surroundings honoring) i p ux uy tries (step *ᶠ ½ᶠ) s) l
+      settled honoring i s c (accepts field piece obstacles c i (s .points) (getD honoring i false)) (tryStep (surroundings honoring) i p ux uy tries (step *ᶠ ½ᶠ) s)
+      (record { across = add-fits binary64 _ _; along = add-fits binary64 _ _ }) l
       (judged i (getD honoring i false) (s .points) c)
       (tried honoring i p ux uy tries (step *ᶠ ½ᶠ) s l)
 
@@ -165,12 +167,6 @@ module _
       let maxStep = maxStepOf numbers (field .spacing) sweep in
       folded honoring (relaxPoint numbers (surroundings honoring) maxStep) (at-point honoring maxStep) s (upTo (length (s .points))) l
 
-  -- the marks after all sweeps
-  pub record Relaxed (points : List Point) : Type 0 where
-    pub insets : Every (Inset piece inset) points
-    pub unblocked : T strict → Every (Unblocked obstacles inset) points
-    pub apart : Pairwise R points
-
   flagged :
       (points : List Point) → (T strict → Every (Unblocked obstacles inset) points) → (i : ℕ) → i < length points → T strict
       → T (getD (honoringOf obstacles inset points) i false)
@@ -186,7 +182,7 @@ module _
   unfolding relaxSweeps
   all-swept honoring s l = folded honoring (relaxSweep numbers (surroundings honoring)) (swept honoring) s (upTo (numbers .sweeps)) l
 
-  pub relaxed : (points : List Point) → Relaxed points → Relaxed (relaxScatter numbers points piece obstacles spacing inset)
+  pub relaxed : (points : List Point) → Kept piece inset obstacles R strict points → Kept piece inset obstacles R strict (relaxScatter numbers points piece obstacles spacing inset)
   unfolding relaxScatter
   relaxed points r = go (idle (length points) spacing)
     where
@@ -202,6 +198,6 @@ module _
       l : Loose honoring end
       l = all-swept honoring start (record { insets = r .insets; unblocked = r .unblocked; apart = r .apart; flags = flagged points (r .unblocked) })
 
-      go : (b : Bool) → Relaxed (cond b points (end .points))
+      go : (b : Bool) → Kept piece inset obstacles R strict (cond b points (end .points))
       go true = r
       go false = record { insets = l .insets; unblocked = l .unblocked; apart = l .apart }

@@ -1,15 +1,14 @@
 -- What holds of the marks that the low-discrepancy and the random packer place: clearance, obstacles, and any two of them.
 -- Rests on each mark being admitted by the computed tests, against all placed before it.
-use mathlib.Core.Path.{_≡_, refl, sym, subst}
 use mathlib.Core.Bool.{Bool, true, false, not, cond, _&&_, _||_}
 use mathlib.Core.List.{List, [], _∷_, _++_}
 use Prim.Native.Nat.{ℕ, zero, suc, _+_, _-_}
 use lib.Dec.{T, eqb}
 use lib.ListN.{length}
-use lib.Ieee.{Float}
+use lib.Ieee.{Float, binary64}
+use lib.Ieee.Fits.{add-fits}
 use Rattle.laws.specs.Any.{all}
-use Rattle.laws.specs.Every.{Every, every-append, every-weaken, every-all, Pairwise, pairwise-append}
-use Rattle.glyphs.specs.declared.mode.PackMode.{PackMode}
+use Rattle.laws.specs.Every.{Every, every-append, every-weaken, every-all, pairwise-append}
 use Rattle.glyphs.specs.declared.rect.Point.{Point}
 use Rattle.glyphs.specs.declared.rect.Rectangle.{Rectangle}
 use Rattle.glyphs.specs.declared.stream.Stream.{Stream}
@@ -21,15 +20,11 @@ use Rattle.regions.specs.Clearance.{signedClearance}
 use Rattle.lattice.specs.declared.context.PackCtx.{PackCtx}
 use Rattle.lattice.specs.Context.{inset, spacing}
 use Rattle.lattice.specs.Escape.{point, squaredDistance}
-use Rattle.scatter.specs.LowDiscrepancy.{Anchor, budget, candidate, apart, admits, pass, passes}
+use Rattle.scatter.specs.declared.low.Anchor.{Anchor}
+use Rattle.scatter.specs.declared.low.Anchor.the-variants.{Nowhere, At}
+use Rattle.scatter.specs.LowDiscrepancy.{budget, candidate, apart, admits, pass, passes}
 use Rattle.scatter.specs.Random.{Thrown, Dart, hit, miss, afterDart, lands, throw, glyphs, throws}
-use Rattle.claims.specs.Walk.{Inset, Unblocked}
-
--- what holds of the marks placed: R of each and those after it
-pub record Kept (piece : Piece) (clear : Float) (near : List Rectangle) (R : Point → Point → Type 0) (honor : Bool) (placed : List Point) : Type 0 where
-  pub insets : Every (Inset piece clear) placed
-  pub unblocked : T honor → Every (Unblocked near clear) placed
-  pub apart : Pairwise R placed
+use Rattle.claims.specs.Kept.{Unblocked, Fits, Stands, Kept, none-kept, less-kept}
 
 three : (a b c : Bool) → T (a && b && c) → T a × T b × T c
 three true true c t = (tt, tt, t)
@@ -41,27 +36,32 @@ honored : (h c : Bool) → T (not h || c) → T h → T c
 honored true c t u = t
 honored false c t u = absurd u
 
-pub none-kept : (piece : Piece) (clear : Float) (near : List Rectangle) (R : Point → Point → Type 0) (honor : Bool) → Kept piece clear near R honor []
-none-kept piece clear near R honor = record { insets = tt; unblocked = λ t. tt; apart = tt }
-
--- a pass without obstacles keeps the rest
-pub less-kept : {piece : Piece} {clear : Float} {near : List Rectangle} {R : Point → Point → Type 0} {honor : Bool} {placed : List Point} → Kept piece clear near R honor placed → Kept piece clear near R false placed
-less-kept k = record { insets = k .insets; unblocked = λ t. absurd t; apart = k .apart }
-
 -- one more mark
 more-kept :
     (piece : Piece) (clear : Float) (near : List Rectangle) (R : Point → Point → Type 0) (honor : Bool) (placed : List Point) (p : Point)
-    → Kept piece clear near R honor placed → Every (λ (q : Point). R q p) placed → Inset piece clear p → (T honor → Unblocked near clear p)
+    → Kept piece clear near R honor placed → Every (λ (q : Point). R q p) placed → Stands piece clear p → (T honor → Unblocked near clear p)
     → Kept piece clear near R honor (placed ++ p ∷ [])
 more-kept piece clear near R honor placed p k r i u =
     record {
-      insets = every-append (Inset piece clear) placed (p ∷ []) (k .insets) (i, tt);
+      insets = every-append (Stands piece clear) placed (p ∷ []) (k .insets) (i, tt);
       unblocked = λ t. every-append (Unblocked near clear) placed (p ∷ []) (k .unblocked t) (u t, tt);
       apart = pairwise-append R placed (p ∷ []) (k .apart) (tt, tt) (every-weaken (λ (q : Point). R q p) (λ (q : Point). Every (R q) (p ∷ [])) placed (λ q e. (e, tt)) r);
     }
 
 -- ---- low discrepancy
-module _ (piece : Piece) (n : ℕ) (ctx : PackCtx) (near : List Rectangle) (anchor : Anchor) (min-x max-x min-y max-y : Float) where
+abbrev pub AnchorFits : Anchor → Type 0
+AnchorFits Nowhere = Unit {0}
+AnchorFits (At p) = Fits p
+
+candidate-fits :
+    (piece : Piece) (n : ℕ) (ctx : PackCtx) (near : List Rectangle) (anchor : Anchor) (min-x max-x min-y max-y : Float) (index : ℕ) → AnchorFits anchor
+    → Fits (candidate piece n ctx near anchor min-x max-x min-y max-y index)
+unfolding candidate
+candidate-fits piece n ctx near Nowhere min-x max-x min-y max-y index f = record { across = add-fits binary64 _ _; along = add-fits binary64 _ _ }
+candidate-fits piece n ctx near (At p) min-x max-x min-y max-y zero f = f
+candidate-fits piece n ctx near (At p) min-x max-x min-y max-y (suc index) f = record { across = add-fits binary64 _ _; along = add-fits binary64 _ _ }
+
+module _ (piece : Piece) (n : ℕ) (ctx : PackCtx) (near : List Rectangle) (anchor : Anchor) (min-x max-x min-y max-y : Float) (held : AnchorFits anchor) where
   -- the computed test of a mark q and a later one p
   abbrev pub Tested : Point → Point → Type 0
   Tested q p = T (apart piece n ctx near anchor min-x max-x min-y max-y p q)
@@ -69,12 +69,12 @@ module _ (piece : Piece) (n : ℕ) (ctx : PackCtx) (near : List Rectangle) (anch
   abbrev KeptHere : Bool → List Point → Type 0
   KeptHere honor placed = Kept piece (inset ctx) near Tested honor placed
 
-  admitted : (honor : Bool) (placed : List Point) (p : Point) → KeptHere honor placed → T (admits piece n ctx near anchor min-x max-x min-y max-y honor placed p) → KeptHere honor (placed ++ p ∷ [])
+  admitted : (honor : Bool) (placed : List Point) (p : Point) → Fits p → KeptHere honor placed → T (admits piece n ctx near anchor min-x max-x min-y max-y honor placed p) → KeptHere honor (placed ++ p ∷ [])
   unfolding admits
-  admitted honor placed p k t =
+  admitted honor placed p f k t =
       let test = apart piece n ctx near anchor min-x max-x min-y max-y p in
       let s = three (all test placed) (signedClearance (p .x) (p .y) piece ≥ᶠ inset ctx) (not honor || clearOfObstacles (p .x) (p .y) near (inset ctx)) t in
-      more-kept piece (inset ctx) near Tested honor placed p k (every-all test placed (s .0)) (s .1) (honored honor (clearOfObstacles (p .x) (p .y) near (inset ctx)) (s .2))
+      more-kept piece (inset ctx) near Tested honor placed p k (every-all test placed (s .0)) (record { fits = f; deep = s .1 }) (honored honor (clearOfObstacles (p .x) (p .y) near (inset ctx)) (s .2))
 
   next : (honor : Bool) (placed : List Point) (p : Point) (b : Bool) → (T b → KeptHere honor (placed ++ p ∷ [])) → KeptHere honor placed → KeptHere honor (cond b (placed ++ p ∷ []) placed)
   next honor placed p true f k = f tt
@@ -92,7 +92,7 @@ module _ (piece : Piece) (n : ℕ) (ctx : PackCtx) (near : List Rectangle) (anch
       let b = admits piece n ctx near anchor min-x max-x min-y max-y honor placed p in
       let now = cond b (placed ++ p ∷ []) placed in
       stop honor (eqb (length placed) n) placed (pass piece n ctx near anchor min-x max-x min-y max-y honor turns (index + 1) now) k
-      (passed honor turns (index + 1) now (next honor placed p b (admitted honor placed p k) k))
+      (passed honor turns (index + 1) now (next honor placed p b (admitted honor placed p (candidate-fits piece n ctx near anchor min-x max-x min-y max-y index held) k) k))
 
   -- both passes; under Strict the second is not made
   pub scattered : Kept piece (inset ctx) near Tested (ctx .mode .«strict_obstacles») (passes piece n ctx near anchor min-x max-x min-y max-y)
@@ -119,12 +119,12 @@ module _ (piece : Piece) (n : ℕ) (attempts : ℕ) (ctx : PackCtx) (near : List
   abbrev KeptThrown : Bool → List Point → Type 0
   KeptThrown honor placed = Kept piece (inset ctx) near Distant honor placed
 
-  landed : (honor : Bool) (placed : List Point) (p : Point) → KeptThrown honor placed → T (lands piece n attempts ctx near min-x max-x min-y max-y honor placed p) → KeptThrown honor (placed ++ p ∷ [])
+  landed : (honor : Bool) (placed : List Point) (p : Point) → Fits p → KeptThrown honor placed → T (lands piece n attempts ctx near min-x max-x min-y max-y honor placed p) → KeptThrown honor (placed ++ p ∷ [])
   unfolding lands
-  landed honor placed p k t =
+  landed honor placed p f k t =
       let test : Point → Bool = λ q. squaredDistance p q ≥ᶠ spacing ctx *ᶠ spacing ctx in
       let s = three (all test placed) (signedClearance (p .x) (p .y) piece ≥ᶠ inset ctx) (not honor || clearOfObstacles (p .x) (p .y) near (inset ctx)) t in
-      more-kept piece (inset ctx) near Distant honor placed p k (every-all test placed (s .0)) (s .1) (honored honor (clearOfObstacles (p .x) (p .y) near (inset ctx)) (s .2))
+      more-kept piece (inset ctx) near Distant honor placed p k (every-all test placed (s .0)) (record { fits = f; deep = s .1 }) (honored honor (clearOfObstacles (p .x) (p .y) near (inset ctx)) (s .2))
 
   -- a dart that hits, lands
   abbrev Good : Bool → List Point → Dart → Type 0
@@ -136,14 +136,14 @@ module _ (piece : Piece) (n : ℕ) (attempts : ℕ) (ctx : PackCtx) (near : List
   aim honor placed p rng false later f g = g
 
   thrown : (honor : Bool) (left : ℕ) (placed : List Point) (rng : Stream) → KeptThrown honor placed → Good honor placed (throw piece n attempts ctx near min-x max-x min-y max-y honor left placed rng)
-  unfolding throw
+  unfolding throw randomRange
   thrown honor zero placed rng k = tt
   thrown honor (suc left) placed rng k =
       let x = randomRange rng min-x max-x in
       let y = randomRange (x .next) min-y max-y in
       let p = point (x .value) (y .value) in
       aim honor placed p (y .next) (lands piece n attempts ctx near min-x max-x min-y max-y honor placed p) (throw piece n attempts ctx near min-x max-x min-y max-y honor left placed (y .next))
-      (landed honor placed p k)
+      (landed honor placed p (record { across = add-fits binary64 _ _; along = add-fits binary64 _ _ }) k)
       (thrown honor left placed (y .next) k)
 
   after : (honor : Bool) (t : Thrown) (d : Dart) (next : Thrown → Thrown) → KeptThrown honor (t .placed) → Good honor (t .placed) d → ((u : Thrown) → KeptThrown honor (u .placed) → KeptThrown honor (next u .placed)) → KeptThrown honor (afterDart next t d .placed)

@@ -1,8 +1,8 @@
 -- The numbers of first..=last: each lies between the two, and no two are the same.
 -- Rests on a sum of integers being that of their exact values.
-use mathlib.Core.Path.{_≡_, refl, sym, ap, _∙_, subst}
+use mathlib.Core.Path.{_≡_}
 use mathlib.Core.Bool.{Bool, true, false, not, cond}
-use mathlib.Core.List.{List, [], _∷_, _++_, map}
+use mathlib.Core.List.{List, [], _∷_, map}
 use Prim.Native.Nat.{ℕ, zero, suc, _+_, _-_, _<_, _≤_}
 use native.Mathlib.Omega.{arith}
 use lib.Dec.{T, ltb, ltb→lt, nltb→le, le→leb}
@@ -10,7 +10,7 @@ use lib.IntN.{ℤ, pos, negsuc, negℤ, subℕ, _+ℤ_, _-ℤ_}
 use lib.Signed.{leZ}
 use Rattle.laws.specs.Every.{Every, every-append, every-weaken, Pairwise, pairwise-append}
 use Rattle.laws.specs.Lists.{upTo}
-use Rattle.rounding.specs.Signed.{Exact, nat, opp, _⊕_, _≈_, _≼_}
+use Rattle.rounding.specs.Signed.{nat, opp, _⊕_, _≈_, _≼_}
 use Rattle.rounding.specs.Integers.{int}
 use Rattle.lattice.specs.Lattice.{many, through}
 

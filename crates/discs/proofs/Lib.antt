@@ -1,1 +1,5 @@
+mod Packed
 mod Turns
+mod Written
+mod Zones
+mod Halving

@@ -19,7 +19,7 @@ use Rattle.deepest.specs.Deepest.{deeperOf}
 use Rattle.relax.specs.declared.Spreading.{Spreading}
 use Rattle.lattice.specs.declared.context.PackCtx.{PackCtx}
 use Rattle.discs.specs.Region.{Zone, placedIn}
-use Rattle.discs.specs.Radius.{contextAt, lowered, ifPositive, probe}
+use Rattle.discs.specs.Radius.{contextAt, areaOf, lowered, ifPositive, probe}
 use Rattle.discs.specs.PlaceGlyphs.{leftIn}
 use Rattle.discs.specs.Pieces.{piecesOf, deepestsOf, packPiecesFrom, Laid}
 use Rattle.discs.specs.declared.ceiling.Chosen.{Chosen}
@@ -91,7 +91,7 @@ unfoldable pub deepestIn : List Deepest → Deepest
 deepestIn deepests = foldl deeperOf Nothing deepests
 
 unfoldable pub loweredBy : Float → Float → Handed → Float
-loweredBy gap r-hi handed = lowered gap r-hi (handed .zone) (deepestIn (handed .deepests))
+loweredBy gap r-hi handed = lowered gap (handed .zone .count) r-hi (areaOf (handed .zone .pieces)) (deepestIn (handed .deepests))
 
 unfoldable pub handedRHi : List Handed → Float → Chosen
 handedRHi work gap = ifPositive (foldl (loweredBy gap) ∞ work)
@@ -114,13 +114,14 @@ unfoldable pub EachRow : List ℕ → List ℕ → List ℕ → (Row → Offsets
 EachRow rows rings sizes P zero z at = Unit {0}
 EachRow rows rings sizes P (suc n) z at = P (rowOf rows z) at × EachRow rows rings sizes P n (z + 1) (pastRow rings sizes (rowOf rows z) at)
 
--- a zone's pieces lie within the slices, and each has a deepest point
+-- a zone has at most 2,000 marks, its pieces lie within the slices, and each has a deepest point
 pub record Stands (rings sizes : List ℕ) (coords deepest : List Float) (row : Row) (at : Offsets) : Type 0 where
   pub pieces : at .piece + row .pieces ≤ length rings
   pub ring : at .ring ≤ length sizes
   pub coord : at .coord ≤ length coords
   pub laid : Laid (cut (at .piece) (row .pieces) rings) (drop (at .ring) sizes) (drop (at .coord) coords)
   pub points : (at .piece + row .pieces) * 3 ≤ length deepest
+  pub marks : row .count ≤ 2000
 
 -- and its key lies within the bytes, each piece has a quota, and the quotas of a zone left in are at most 2,000
 pub record Packable (s rings sizes : List ℕ) (coords : List Float) (quotas : List ℕ) (deepest : List Float) (row : Row) (at : Offsets) : Type 0 where

@@ -1,7 +1,11 @@
 pub mod Region
 pub mod Searches
 pub mod Pieces
+pub mod PieceLaws
+pub mod Joined
 pub mod Radius
 pub mod PlaceGlyphs
 pub mod Floor
 pub mod Walk
+pub mod FlatPieces
+pub mod FloorLaws

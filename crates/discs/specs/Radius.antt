@@ -53,12 +53,11 @@ contextAt options mode r = record { r = r; gap = gapOf options; «boundary_gap»
 unfoldable pub areaOf : List Piece → Float
 areaOf pieces = foldl _+ᶠ_ -0ᶠ (areas pieces)
 
--- one zone's bounds: its deepest point, and its area
-unfoldable pub lowered : Float → Float → Zone → Deepest → Float
-lowered gap r-hi zone Nothing = r-hi
-lowered gap r-hi zone Full = r-hi
-lowered gap r-hi zone (Found x y clearance) =
-    min (min r-hi (clearance /ᶠ (1ᶠ +ᶠ gap))) (sqrt (areaOf (zone .pieces) /ᶠ (as-f64 (zone .count) *ᶠ π)))
+-- the bounds of n marks: their zone's deepest point, and its area
+unfoldable pub lowered : Float → ℕ → Float → Float → Deepest → Float
+lowered gap n r-hi area Nothing = r-hi
+lowered gap n r-hi area Full = r-hi
+lowered gap n r-hi area (Found x y clearance) = min (min r-hi (clearance /ᶠ (1ᶠ +ᶠ gap))) (sqrt (area /ᶠ (as-f64 n *ᶠ π)))
 
 -- (r_hi.is_finite() && r_hi > 0.0).then_some(r_hi)
 unfoldable pub ifPositive : Float → Chosen
@@ -66,7 +65,7 @@ ifPositive r-hi = cond (isFinite r-hi && r-hi >ᶠ 0ᶠ) (Some r-hi) None
 
 unfoldable pub analyticRHi : ℕ → List Zone → Float → Float → Chosen
 analyticRHi room work gap precision =
-    ifPositive (foldl (λ r-hi zone. lowered gap r-hi zone (poiWithHoles room precision (zone .pieces))) ∞ work)
+    ifPositive (foldl (λ (r-hi : Float) (zone : Zone). lowered gap (zone .count) r-hi (areaOf (zone .pieces)) (poiWithHoles room precision (zone .pieces))) ∞ work)
 
 -- ---- the search
 

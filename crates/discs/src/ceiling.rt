@@ -3,7 +3,7 @@ ghost use mathlib.Core.Path.{_≡_};
 ghost use mathlib.Core.List.{List};
 ghost use Prim.Native.Nat.{ℕ, _*_, _≤_};
 ghost use lib.ListN.{length};
-ghost use Rattle.discs.specs.Radius.{areaOf, ifPositive};
+ghost use Rattle.discs.specs.Radius.{areaOf, lowered, ifPositive};
 ghost use Rattle.discs.specs.Pieces.{piecesOf, deepestsOf, Laid};
 ghost use Rattle.discs.specs.Floor.{handedAt, workIn, deepestIn, handedRHi, EachRow, Stands, start};
 ghost use Rattle.discs.specs.Walk.{lowering};
@@ -60,8 +60,26 @@ fn deepest_in(deepest: &[f64]) -> Deepest
     best
 }
 
-// `r_hi` under the bounds of a zone, where it is left in.
-fn lowered(
+// `r_hi` under the bounds of `n` marks: their zone's deepest point, and its area.
+fn lowered(gap: f64, n: usize, r_hi: f64, area: f64, found: Deepest) -> f64
+    requires { ⌜ n ≤ 2000 ⌝ }
+    ensures { λ r. ⌜ r ≡ lowered gap n «r_hi» area found ⌝ }
+{
+    match found {
+        Deepest::Nothing => r_hi,
+        Deepest::Full => r_hi,
+        Deepest::Found(_, _, clearance) => {
+            let by_clearance = float::min(r_hi, clearance / (1.0 + gap));
+            float::min(
+                by_clearance,
+                float::root(area / (n as f64 * 3.141592653589793)),
+            )
+        }
+    }
+}
+
+// The same of a zone, where it is left in.
+fn lowered_by(
     gap: f64,
     r_hi: f64,
     rings: &[usize],
@@ -83,12 +101,9 @@ fn lowered(
     let c = at.coord;
     let d = p * 3;
     let e = q * 3;
-    let Deepest::Found(_, _, clearance) = deepest_in(&deepest[d..e]) else {
-        return r_hi;
-    };
     let area = area_of(&rings[p..q], &sizes[k..], &coords[c..]);
-    let marks = row.count as f64 * 3.141592653589793;
-    float::min(float::min(r_hi, clearance / (1.0 + gap)), float::root(area / marks))
+    let found = deepest_in(&deepest[d..e]);
+    lowered(gap, row.count, r_hi, area, found)
 }
 
 // The radius, where it is one.
@@ -119,7 +134,7 @@ pub fn analytic_r_hi(
     let mut z = 0;
     while z < n {
         let row = get_row(rows, z);
-        r_hi = lowered(gap, r_hi, rings, sizes, coords, deepest, row, at);
+        r_hi = lowered_by(gap, r_hi, rings, sizes, coords, deepest, row, at);
         at = past_row(rings, sizes, coords, row, at);
         z += 1;
     }

@@ -5,5 +5,4 @@ pub mod piece;
 pub mod radius;
 pub mod region;
 pub mod rows;
-mod stub;
 pub mod trial;

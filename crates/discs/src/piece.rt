@@ -3,16 +3,11 @@ ghost use mathlib.Core.Path.{_≡_};
 ghost use mathlib.Core.Bool.{true, false};
 ghost use Prim.Native.Nat.{_+_, _*_, _≤_, _<_};
 ghost use lib.ListN.{length};
-ghost use Rattle.laws.specs.Lists.{written};
 ghost use Rattle.glyphs.specs.Rect.{rectangles};
-ghost use Rattle.glyphs.specs.Spots.{flat};
 ghost use Rattle.regions.specs.Ring.{sum, pieceOf};
 ghost use Rattle.discs.specs.Region.{packUniformPiece, packLowDiscrepancyPiece};
 ghost use Rattle.discs.specs.Pieces.{deepestAt, packQuota, Room, StrictTrial, Packs};
 use crate::options::GlyphOptions;
-use crate::stub::lone_anchor;
-use crate::stub::pack_low_discrepancy_piece;
-use crate::stub::pack_random_piece;
 use deepest::search::Deepest;
 use glyphs::options::GlyphArrangement;
 use glyphs::rect::Point;
@@ -22,7 +17,10 @@ use lattice::uniform::pack_uniform_piece;
 use lattice::uniform::probe_uniform_piece;
 use relax::Spreading;
 use scatter::low::Anchor;
+use scatter::low::lone_anchor;
+use scatter::low::pack_low_discrepancy_piece;
 use scatter::random::Taken;
+use scatter::random::pack_random_piece;
 
 // The deepest point of piece `k`: three floats each.
 pub fn deepest_at(deepest: &[f64], k: usize) -> Deepest
@@ -100,15 +98,8 @@ fn pack_low_discrepancy(
             spots,
         );
     };
-    let anchor = lone_anchor(
-        Point { x, y },
-        sizes,
-        coords,
-        n,
-        ctx,
-        obstacles,
-        &mut near[..],
-    );
+    let poi = Point { x, y };
+    let anchor = lone_anchor(poi, sizes, coords, n, ctx, obstacles, &mut near[..]);
     pack_low_discrepancy_piece(anchor, sizes, coords, n, ctx, obstacles, near, spots)
 }
 

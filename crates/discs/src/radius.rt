@@ -111,10 +111,7 @@ fn auto_radius(
     while made < 25 {
         if b.hi - b.lo <= 1e-3 * r_hi {
             let best = b.best;
-            return Search {
-                best,
-                trials: made,
-            };
+            return Search { best, trials: made };
         }
         let mid = 0.5 * (b.lo + b.hi);
         let fits = feasible(
@@ -139,10 +136,7 @@ fn auto_radius(
         made += 1;
     }
     let best = b.best;
-    Search {
-        best,
-        trials: made,
-    }
+    Search { best, trials: made }
 }
 
 fn or_else(best: Chosen, other: f64) -> f64

@@ -60,8 +60,10 @@ fn pack_pieces(
     while k < rings.len() {
         let b = a + rings[k];
         let piece = &sizes[a..b];
+        let rest = &coords[c..];
+        let quota = quotas[k];
         let from = placed * 2;
-        let to = (placed + quotas[k]) * 2;
+        let to = from + quota * 2;
         let taken = pack_piece(
             numbers,
             options,
@@ -69,8 +71,8 @@ fn pack_pieces(
             obstacles,
             deepest_at(deepest, k),
             piece,
-            &coords[c..],
-            quotas[k],
+            rest,
+            quota,
             rng,
             &mut near[..],
             &mut second[..],
@@ -79,7 +81,7 @@ fn pack_pieces(
         );
         placed += taken.count;
         rng = taken.rng;
-        c += coords_in(piece, &coords[c..]);
+        c += coords_in(piece, rest);
         a = b;
         k += 1;
     }

@@ -36,7 +36,7 @@ fn anchor_of(poi: Point, sizes: &[usize], coords: &[f64], near: &[f64], inset: f
 }
 
 // The bounds of a piece's outer ring.
-fn piece_bounds(sizes: &[usize], coords: &[f64]) -> Bounds
+pub fn piece_bounds(sizes: &[usize], coords: &[f64]) -> Bounds
     requires { ⌜ (0 < length (now sizes)) × (sum (now sizes) * 2 ≤ length (now coords)) ⌝ }
     ensures { λ r. ⌜ r ≡ ringBounds (outer (pieceOf (now (sizes .entry)) (now (coords .entry)))) ⌝ }
 {

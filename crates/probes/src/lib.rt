@@ -12,6 +12,11 @@ ghost use Rattle.regions.specs.Inside.{pointInPolygon};
 ghost use Rattle.relax.specs.Scatter.{source, relaxScatter};
 use deepest::search::Deepest;
 use glyphs::bounds::Bounds;
+use glyphs::mode::PackMode;
+use glyphs::rect::Point;
+use glyphs::stream::Stream;
+use lattice::context::PackCtx;
+use scatter::low::Anchor;
 
 #[no_mangle]
 pub extern "C" fn probe_signed_clearance(sizes: &[usize], coords: &[f64], x: f64, y: f64) -> f64
@@ -33,6 +38,32 @@ pub extern "C" fn probe_clearance_at_least(
     ensures { λ r. ⌜ r ≡ (c ≤ᶠ signedClearance x y (pieceOf (now (sizes .entry)) (now (coords .entry)))) ⌝ }
 {
     regions::margin::clearance_at_least(x, y, sizes, coords, c)
+}
+
+fn one_if(b: bool) -> u64
+    ensures { λ r. ⌜ r ≤ 1 ⌝ }
+{
+    if b {
+        return 1;
+    }
+    0
+}
+
+// How many of the places, x and y in turn, have a clearance of at least c.
+#[no_mangle]
+pub extern "C" fn probe_count_clear(sizes: &[usize], coords: &[f64], places: &[f64], c: f64) -> u64
+    requires { ⌜ (0 < length (now sizes)) × (sum (now sizes) * 2 ≤ length (now coords)) ⌝ }
+{
+    let margin = regions::margin::Margin::of(c);
+    let n = places.len() / 2;
+    let mut many = 0u64;
+    let mut k = 0;
+    while k < n {
+        let p = glyphs::spots::spot(places, k);
+        many = many + one_if(regions::margin::clears(p.x, p.y, sizes, coords, margin));
+        k += 1;
+    }
+    many
 }
 
 #[no_mangle]
@@ -99,6 +130,54 @@ pub extern "C" fn probe_obstacles_near(
         k += 1;
     }
     many
+}
+
+// At most 64 obstacles, with the source's numbers.
+#[no_mangle]
+pub extern "C" fn probe_pack_random(
+    sizes: &[usize],
+    coords: &[f64],
+    obstacles: &[f64],
+    settings: &[f64; 4],
+    quota: u64,
+    attempts: u32,
+    spread: u8,
+    strict: u8,
+    state: &mut u64,
+    first: &mut [f64],
+    second: &mut [f64],
+    spots: &mut [f64],
+) -> u64
+    requires { ⌜ (0 < length (now sizes)) × (sum (now sizes) * 2 ≤ length (now coords)) × (length (now obstacles) ≤ 256) × (quota ≤ length (now first)) × (quota ≤ length (now second)) × (quota * 2 ≤ length (now spots)) ⌝ }
+{
+    let mode = PackMode {
+        spread: spread == 1,
+        strict_obstacles: strict == 1,
+    };
+    let ctx = PackCtx {
+        r: settings[0],
+        gap: settings[1],
+        boundary_gap: settings[2],
+        mode,
+    };
+    let rng = Stream { state: *state };
+    let mut near = [0.0; 256];
+    let taken = scatter::random::pack_random_piece(
+        relax::Spreading::SOURCE,
+        sizes,
+        coords,
+        quota as usize,
+        attempts,
+        ctx,
+        obstacles,
+        rng,
+        &mut near[..],
+        first,
+        second,
+        spots,
+    );
+    *state = taken.rng.state;
+    taken.count as u64
 }
 
 // The marks, at most 2,000, with the source's numbers.
@@ -206,4 +285,80 @@ pub extern "C" fn probe_depth(
         Deepest::Nothing => 0.0,
         Deepest::Found(_, _, d) => d,
     }
+}
+
+// The place that a lone mark tries first, from a search with room for 1,600 cells.
+fn lone_place(
+    sizes: &[usize],
+    coords: &[f64],
+    n: usize,
+    ctx: PackCtx,
+    precision: f64,
+    obstacles: &[f64],
+    near: &mut [f64],
+    cells: &mut [f64],
+) -> Anchor
+    requires { ⌜ (0 < length (now sizes)) × (sum (now sizes) * 2 ≤ length (now coords)) × (length (now obstacles) ≤ length (now near)) × (8000 ≤ length (now cells)) ⌝ }
+{
+    if n != 1 {
+        return Anchor::Nowhere;
+    }
+    let found = deepest::search::deepest_point(sizes, coords, precision, &mut cells[..8000]);
+    let Deepest::Found(x, y, _) = found else {
+        return Anchor::Nowhere;
+    };
+    scatter::low::lone_anchor(Point { x, y }, sizes, coords, n, ctx, obstacles, near)
+}
+
+// At most 64 obstacles.
+#[no_mangle]
+pub extern "C" fn probe_pack_low_discrepancy(
+    sizes: &[usize],
+    coords: &[f64],
+    obstacles: &[f64],
+    settings: &[f64; 4],
+    quota: u64,
+    attempts: u32,
+    spread: u8,
+    strict: u8,
+    state: &mut u64,
+    first: &mut [f64],
+    second: &mut [f64],
+    spots: &mut [f64],
+) -> u64
+    requires { ⌜ (0 < length (now sizes)) × (sum (now sizes) * 2 ≤ length (now coords)) × (length (now obstacles) ≤ 256) × (8000 ≤ length (now first)) × (quota * 2 ≤ length (now spots)) ⌝ }
+{
+    let mode = PackMode {
+        spread: spread == 1,
+        strict_obstacles: strict == 1,
+    };
+    let ctx = PackCtx {
+        r: settings[0],
+        gap: settings[1],
+        boundary_gap: settings[2],
+        mode,
+    };
+    let n = quota as usize;
+    let mut near = [0.0; 256];
+    let precision = settings[3];
+    let anchor = lone_place(
+        sizes,
+        coords,
+        n,
+        ctx,
+        precision,
+        obstacles,
+        &mut near[..],
+        first,
+    );
+    scatter::low::pack_low_discrepancy_piece(
+        anchor,
+        sizes,
+        coords,
+        n,
+        ctx,
+        obstacles,
+        &mut near[..],
+        spots,
+    ) as u64
 }

@@ -8,3 +8,4 @@ pub mod Margin
 pub mod Early
 pub mod Facts
 pub mod Sizes
+pub mod Sides

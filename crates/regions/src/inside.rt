@@ -1,7 +1,10 @@
 // regions.rs, `point_in_polygon`.
 ghost use mathlib.Core.Path.{_≡_};
+ghost use Prim.Native.Nat.{_+_, _/_, _≤_, _<_};
+ghost use lib.ListN.{length};
 ghost use lib.Ieee.{Float};
-ghost use Rattle.regions.specs.Inside.{intersect, flip, pointInPolygon};
+ghost use Rattle.regions.specs.Inside.{intersect, flip, insideAfter, pointInPolygon};
+ghost use Rattle.regions.specs.Sides.{onOneSide};
 use glyphs::points::vx;
 use glyphs::points::vy;
 
@@ -27,6 +30,51 @@ fn turned(inside: bool, crossed: bool) -> bool
     inside
 }
 
+// Whether the nine vertices from vertex `i` on are all above y, or all not, so that no edge between two of them is
+// crossed. There is no branch inside.
+fn on_one_side(y: f64, v: &[f64], i: usize) -> bool
+    requires { ⌜ i + 9 ≤ length (now v) / 2 ⌝ }
+    ensures { λ r. ⌜ r ≡ onOneSide y (now (v .entry)) i 9 ⌝ }
+{
+    let mut all = true;
+    let mut any = false;
+    let mut k = 0;
+    while k < 9 {
+        let above = vy(v, i + k) > y;
+        all = all & above;
+        any = any | above;
+        k += 1;
+    }
+    all | !any
+}
+
+// `inside` after the turns from `i` up to `e`.
+fn turned_from(x: f64, y: f64, v: &[f64], i: usize, e: usize, inside: bool) -> bool
+    requires { ⌜ (0 < i) × (i ≤ e) × (e ≤ length (now v) / 2) × (inside ≡ insideAfter x y (now v) (length (now v) / 2) i) ⌝ }
+    ensures { λ r. ⌜ r ≡ insideAfter x y (now (v .entry)) (length (now (v .entry)) / 2) e ⌝ }
+{
+    let mut turned_over = inside;
+    let mut k = i;
+    while k < e {
+        let j = k - 1;
+        let crossed = crosses(x, y, vx(v, k), vy(v, k), vx(v, j), vy(v, j));
+        turned_over = turned(turned_over, crossed);
+        k += 1;
+    }
+    turned_over
+}
+
+// `inside` after the eight turns from `i` on, which are passed over together where no edge is crossed.
+fn turned_by_eight(x: f64, y: f64, v: &[f64], i: usize, inside: bool) -> bool
+    requires { ⌜ (0 < i) × (i + 8 ≤ length (now v) / 2) × (inside ≡ insideAfter x y (now v) (length (now v) / 2) i) ⌝ }
+    ensures { λ r. ⌜ r ≡ insideAfter x y (now (v .entry)) (length (now (v .entry)) / 2) (i + 8) ⌝ }
+{
+    if on_one_side(y, v, i - 1) {
+        return inside;
+    }
+    turned_from(x, y, v, i, i + 8, inside)
+}
+
 pub fn point_in_polygon(x: f64, y: f64, v: &[f64]) -> bool
     ensures { λ r. ⌜ r ≡ pointInPolygon x y (now (v .entry)) ⌝ }
 {
@@ -34,14 +82,12 @@ pub fn point_in_polygon(x: f64, y: f64, v: &[f64]) -> bool
     if n < 3 {
         return false;
     }
-    let mut inside = false;
-    let mut j = n - 1;
-    let mut i = 0;
-    while i < n {
-        let crossed = crosses(x, y, vx(v, i), vy(v, i), vx(v, j), vy(v, j));
-        inside = turned(inside, crossed);
-        j = i;
-        i += 1;
+    let j = n - 1;
+    let mut inside = crosses(x, y, vx(v, 0), vy(v, 0), vx(v, j), vy(v, j));
+    let mut i = 1;
+    while n - i >= 8 {
+        inside = turned_by_eight(x, y, v, i, inside);
+        i += 8;
     }
-    inside
+    turned_from(x, y, v, i, n, inside)
 }

@@ -47,27 +47,33 @@ cellNumber low cell-size x = as-i64 (floor ((x -ᶠ low) /ᶠ cell-size))
 abbrev pub budget : ℕ → ℕ
 budget n = min (max (n * 100) 1024) 1000000
 
+-- q is in one of the nine cells around p's
+abbrev pub neighbours : Float → Float → Float → Point → Point → Bool
+neighbours min-x min-y cell-size p q =
+    beside (cellNumber min-x cell-size (p .x)) (cellNumber min-x cell-size (q .x)) && beside (cellNumber min-y cell-size (p .y)) (cellNumber min-y cell-size (q .y))
+
+-- the sequence's point of an index, in a box
+abbrev pub haltonPoint : Float → Float → Float → Float → ℕ → Point
+haltonPoint min-x max-x min-y max-y index =
+    point (min-x +ᶠ (max-x -ᶠ min-x) *ᶠ radicalInverse (index + 1) 2) (min-y +ᶠ (max-y -ᶠ min-y) *ᶠ radicalInverse (index + 1) 3)
+
+-- anchor.filter(|_| index == 0).unwrap_or_else(..)
+abbrev pub firstOr : Anchor → ℕ → Point → Point
+firstOr Nowhere index p = p
+firstOr (At place) zero p = place
+firstOr (At place) (suc index) p = p
+
 module _ (piece : Piece) (n : ℕ) (ctx : PackCtx) (near : List Rectangle) (anchor : Anchor) (min-x max-x min-y max-y : Float) where
   abbrev pub cellSize : Float
   cellSize = Float.max (spacing ctx) ε
 
   -- the candidate of an index
   unfoldable pub candidate : ℕ → Point
-  candidate index = first index anchor
-    where
-      halton : ℕ → Point
-      halton index = point (min-x +ᶠ (max-x -ᶠ min-x) *ᶠ radicalInverse (index + 1) 2) (min-y +ᶠ (max-y -ᶠ min-y) *ᶠ radicalInverse (index + 1) 3)
-
-      first : ℕ → Anchor → Point
-      first index Nowhere = halton index
-      first zero (At p) = p
-      first (suc index) (At p) = halton (suc index)
+  candidate index = firstOr anchor index (haltonPoint min-x max-x min-y max-y index)
 
   -- a spot in one of the nine cells around the candidate's keeps the spacing
   unfoldable pub apart : Point → Point → Bool
-  apart p q =
-      not (beside (cellNumber min-x cellSize (p .x)) (cellNumber min-x cellSize (q .x)) && beside (cellNumber min-y cellSize (p .y)) (cellNumber min-y cellSize (q .y)))
-      || squaredDistance p q ≥ᶠ spacing ctx *ᶠ spacing ctx
+  apart p q = not (neighbours min-x min-y cellSize p q) || squaredDistance p q ≥ᶠ spacing ctx *ᶠ spacing ctx
 
   unfoldable pub admits : Bool → List Point → Point → Bool
   admits honor placed p =

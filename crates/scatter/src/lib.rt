@@ -1,3 +1,4 @@
 // discs.rs: the low-discrepancy and the random packer.
+pub mod cells;
 pub mod low;
 pub mod random;

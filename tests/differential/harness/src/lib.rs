@@ -2,6 +2,7 @@
 
 pub mod comparison;
 pub mod generator;
+pub mod guarded;
 pub mod layer_inputs;
 pub mod leaf_inputs;
 pub mod lent;

@@ -71,6 +71,15 @@ fn line(name: &str, job: &[u8]) -> String {
     format!("{name} {} {outcome} {free} {with_obstacles}\n", hex(job))
 }
 
+/// The first jobs of the mixed run, a line for each with its name and bytes.
+pub fn jobs(total: u64) -> String {
+    let line = |number| {
+        let (kind, seed, job) = generator::mixed(number);
+        format!("{} {}\n", generator::name(kind, seed), hex(&job))
+    };
+    (0..total).map(line).collect()
+}
+
 pub fn parse(text: &str) -> Vec<Record> {
     text.lines()
         .filter(|line| !line.starts_with('#'))

@@ -1,6 +1,5 @@
 -- `deepest_at` meets its contract: the three floats of a piece, told apart by the clearance.
 -- Rests on the definition alone.
-use native.Mathlib.Omega.{arith}
 use borrow.Author.Needs.{needs}
 use Rattle.laws.specs.Choice.{picks}
 use Rattle.discs.specs.Pieces.{deepestFrom}

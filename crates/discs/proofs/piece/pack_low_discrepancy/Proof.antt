@@ -1,52 +1,42 @@
+-- `pack_low_discrepancy` meets its contract: the sequence's spots, the first tried at the deepest point where one mark is wanted.
+-- Rests on the contracts of the packer and of the anchor.
 use borrow.Author.Needs.{needs}
+use Rattle.glyphs.specs.Rect.{rectangles}
+use Rattle.regions.specs.Ring.{pieceOf}
+use Rattle.discs.proofs.Packed.{packs-written, low-none, low-at}
 use Rattle.discs.proofs.piece.pack_low_discrepancy.Statement.{statement}
 use Rattle.discs.proofs.piece.pack_low_discrepancy.Tie as tie
-use Rattle.discs.proofs.piece.pack_low_discrepancy.Reads as reads
-use Rattle.discs.proofs.piece.pack_low_discrepancy.Lts as lts
-use Rattle.discs.proofs.stub.lone_anchor.Reads as lone-anchor-reads
-use Rattle.discs.proofs.stub.pack_low_discrepancy_piece.Reads as pack-low-discrepancy-piece-reads
-
-enum-known-found : tie.Need-enum-known-found
-enum-known-found c = search needs
-
-pack-low-discrepancy-piece-requires : tie.Need-pack-low-discrepancy-piece-requires
-pack-low-discrepancy-piece-requires c κs = search needs
-
-same-length : tie.Need-same-length
-same-length c = search needs
-
-same-length-2 : tie.Need-same-length-2
-same-length-2 c = search needs
 
 returns : tie.Need-returns
-returns c = search needs
-
-lone-anchor-requires : tie.Need-lone-anchor-requires
-lone-anchor-requires c κs = search needs
-
-pack-low-discrepancy-piece-requires-2 : tie.Need-pack-low-discrepancy-piece-requires-2
-pack-low-discrepancy-piece-requires-2 c κs = search needs
-
-same-length-3 : tie.Need-same-length-3
-same-length-3 c = search needs
-
-same-length-4 : tie.Need-same-length-4
-same-length-4 c = search needs
+returns c =
+    let r = c .before .before .before .before .pack-low-discrepancy-piece in
+    let s = c .before .before .before .before .before .before .before .before .before .before .before .before .before in
+    let a = s .args in
+    packs-written (a .ctx .mode) (a .n) _ _ (r .result) _ (a .spots .now)
+    (low-none (pieceOf (a .sizes .now) (a .coords .now)) (a .n) (a .ctx) (rectangles (a .obstacles .now)) (a .found) (c .before .before .before .before .before .before .before .match .keys2))
+    (r .ensures .0) (r .ensures .1) (search needs) (s .pre .3)
 
 returns-2 : tie.Need-returns-2
-returns-2 c = search needs
+returns-2 c =
+    let r = c .before .before .before .before .pack-low-discrepancy-piece2 in
+    let f = c .before .before .before .before .before .before .before .before .before .before .before .before .found .given in
+    let s = c .before .before .before .before .before .before .before .before .before .before .before .before .before .before .before .before .before .before .before in
+    let a = s .args in
+    packs-written (a .ctx .mode) (a .n) _ _ (r .result) _ (a .spots .now)
+    (low-at (pieceOf (a .sizes .now) (a .coords .now)) (a .n) (a .ctx) (rectangles (a .obstacles .now)) (a .found) (f .0 .0) (f .0 .1 .0) (f .0 .1 .1 .0) _ (f .1) (c .before .before .before .before .before .before .before .before .before .lone-anchor .ensures))
+    (r .ensures .0) (r .ensures .1) (search needs) (s .pre .3)
 
 pub pack-low-discrepancy-spec : {M : Type 1} → statement M
 pack-low-discrepancy-spec =
     tie.close
     (tie.spec
-    enum-known-found
-    pack-low-discrepancy-piece-requires
-    same-length
-    same-length-2
+    (λ c. search needs)
+    (λ c κs. search needs)
+    (λ c. search needs)
+    (λ c. search needs)
     returns
-    lone-anchor-requires
-    pack-low-discrepancy-piece-requires-2
-    same-length-3
-    same-length-4
+    (λ c κs. search needs)
+    (λ c κs. search needs)
+    (λ c. search needs)
+    (λ c. search needs)
     returns-2)

@@ -1,14 +1,18 @@
+-- `narrowed` meets its contract, by the trial.
+-- Rests on the definition alone.
+use Rattle.laws.specs.Choice.{picks}
+use Rattle.discs.specs.Walk.{narrowed}
 use borrow.Author.Needs.{needs}
 use Rattle.discs.proofs.radius.narrowed.Statement.{statement}
 use Rattle.discs.proofs.radius.narrowed.Tie as tie
-use Rattle.discs.proofs.radius.narrowed.Reads as reads
-use Rattle.discs.proofs.radius.narrowed.Lts as lts
 
 returns : tie.Need-returns
-returns c = search needs
+unfolding narrowed
+returns c = search picks
 
 returns-2 : tie.Need-returns-2
-returns-2 c = search needs
+unfolding narrowed
+returns-2 c = search picks
 
 pub narrowed-spec : {M : Type 1} → statement M
 narrowed-spec = tie.close (tie.spec returns returns-2)

@@ -1,10 +1,8 @@
+-- `boundary_gap_of` meets its contract: the gap's own, or the one between marks.
+-- Rests on what `gap_of` and `max` ensure.
 use borrow.Author.Needs.{needs}
 use Rattle.discs.proofs.trial.boundary_gap_of.Statement.{statement}
 use Rattle.discs.proofs.trial.boundary_gap_of.Tie as tie
-use Rattle.discs.proofs.trial.boundary_gap_of.Reads as reads
-use Rattle.discs.proofs.trial.boundary_gap_of.Lts as lts
-use Rattle.discs.proofs.trial.gap_of.Reads as gap-of-reads
-use Rattle.float.proofs.max.Reads as max-reads
 
 enum-known-own : tie.Need-enum-known-own
 enum-known-own c = search needs
@@ -19,13 +17,13 @@ max-requires : tie.Need-max-requires
 max-requires c κs = search needs
 
 returns : tie.Need-returns
-returns c = search needs
+returns c = rw (c .max .ensures, c .before .gap-of .ensures, c .before .before .enum-told .given .1)
 
 max-requires-2 : tie.Need-max-requires-2
 max-requires-2 c κs = search needs
 
 returns-2 : tie.Need-returns-2
-returns-2 c = search needs
+returns-2 c = rw (c .max2 .ensures, c .before .before .own .given .1)
 
 pub boundary-gap-of-spec : {M : Type 1} → statement M
 boundary-gap-of-spec =

@@ -1,16 +1,17 @@
 //! What needs the oracle alone: its own checks, the recorded answers, the
 //! lists for the documents, and the search for planted faults.
 
+use std::io::Write;
 use std::path::PathBuf;
 use std::process::ExitCode;
-use std::{env, fs};
+use std::{env, fs, io};
 
 use harness::tally::Tally;
 use harness::{noticed, recorded, refusals, tables, worked};
-use oracle::judge::{Lent, answer};
+use oracle::judge::{Lent, Outcome, answer};
 
 const USAGE: &str = "judge self|replay FILE|record FILE|census N|substitutions|faults
-      |hashes FILE N|noticed FILE|answer FILE";
+      |hashes FILE N|noticed FILE|answer FILE|sheet FILE|jobs N";
 
 fn main() -> ExitCode {
     let arguments: Vec<String> = env::args().skip(1).collect();
@@ -25,6 +26,8 @@ fn main() -> ExitCode {
         ["hashes", file, total] => write(file, &noticed::hashes(number(total))),
         ["noticed", file] => look_for_difference(file),
         ["answer", file] => print(&format!("{:?}\n", answer(&read(file), Lent::PROGRAM))),
+        ["sheet", file] => write_sheet(&read(file)),
+        ["jobs", total] => print(&recorded::jobs(number(total))),
         _ => {
             eprintln!("{USAGE}");
             false
@@ -49,6 +52,15 @@ fn write(file: &str, bytes: &[u8]) -> bool {
 fn print(text: &str) -> bool {
     print!("{text}");
     true
+}
+
+/// What the job program writes.
+fn write_sheet(job: &[u8]) -> bool {
+    let bytes = match answer(job, Lent::PROGRAM).outcome {
+        Outcome::Refused(number) => format!("refused {number}\n").into_bytes(),
+        Outcome::Sheet(sheet) => sheet,
+    };
+    io::stdout().write_all(&bytes).is_ok()
 }
 
 fn kept() -> PathBuf {

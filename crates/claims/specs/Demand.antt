@@ -1,0 +1,146 @@
+-- DEMAND 3: of every job that is not refused, the sheet keeps what is claimed of it: clearances, exact distances, pillars under Strict, quotas.
+-- Rests on the laws of its zones and of the radius, and on the sheet's bytes being read back.
+use mathlib.Core.Path.{_≡_, refl, sym, ap, subst, _∙_}
+use mathlib.Core.Bool.{Bool, true, false, not, cond, _&&_}
+use mathlib.Core.List.{List, [], _∷_, _++_, map}
+use Prim.Native.Nat.{ℕ, suc, _+_, _*_, _≤_, _<_}
+use native.Mathlib.Omega.{arith}
+use lib.Dec.{T, eqb, eqb→eq, ltb, ltb→lt}
+use lib.ListN.{length, length-map}
+use lib.Ieee.{Float, ofBits, fits}
+use borrow.Author.Tests.{eq-eqb}
+use Rattle.laws.specs.Every.{Every, every-weaken}
+use Rattle.laws.specs.Lists.{written}
+use Rattle.laws.specs.Truth.{yes}
+use Rattle.float.specs.Ops.{_≥ᶠ_}
+use Rattle.rounding.specs.Signed.{plain, signed, _≼_}
+use Rattle.rounding.specs.Value.{U, sgn, mag, val, Num}
+use Rattle.rounding.specs.Comparison.{le→≼}
+use Rattle.rounding.specs.Bounds.{Sized}
+use Rattle.rounding.specs.Signs.{Nonneg}
+use Rattle.glyphs.specs.Rect.{rectangles}
+use Rattle.discs.specs.Region.{Zone}
+use Rattle.discs.specs.declared.options.Radius.{Radius}
+use Rattle.discs.specs.declared.options.Radius.the-variants.{Auto, Stated}
+use Rattle.discs.specs.Radius.{Chosen, some, boundaryGapOf}
+use Rattle.discs.specs.PlaceGlyphs.{Placed, leftIn, workOf}
+use Rattle.format.specs.RowLaws.{both, passed}
+use Rattle.format.specs.Known.{All, PieceKnown}
+use Rattle.sheet.specs.Sheet.{sheetOf}
+use Rattle.sheet.specs.Back.{WritableSheet, sheet-back}
+use Rattle.job.specs.Head.{lentFault, workFault}
+use Rattle.job.specs.Job.{Job, jobOf, itemsFault, sheetFault}
+use Rattle.job.specs.Known.{ZoneKnown, marksOf, JobKnown, job-known}
+use Rattle.job.specs.Plan.{room, leastCeiling, lowFault, ceilingOf, searchFault, ceilingFault, numberOf, source, placementsOf, placementOf, sheetFor, Plan, given, refused, planOf}
+use Rattle.claims.specs.Claim.{pillarsOf, SheetKept}
+use Rattle.claims.specs.Ceilings.{ceiling-known}
+use Rattle.claims.specs.Entries.{all-writable, zones-kept}
+use Rattle.claims.specs.Measured.{boundary-gap}
+use Rattle.claims.specs.Placings.{LeftIn, Topped, placements-kept}
+
+-- ---- the zones left in
+left-in : (zones : List Zone) → All ZoneKnown zones → marksOf zones ≤ 2000 → Every LeftIn (workOf zones)
+unfolding workOf leftIn marksOf
+left-in [] k m = tt
+left-in (zone ∷ zones) k m = go (ltb 0 (zone .count)) (ltb 0 (length (zone .pieces))) (ltb→lt 0 (length (zone .pieces))) (left-in zones (k .1) (omega arith))
+  where
+    go : (a b : Bool) → (T b → 0 < length (zone .pieces)) → Every LeftIn (workOf zones) → Every LeftIn (cond (a && b) (zone ∷ workOf zones) (workOf zones))
+    go true true f later = (record { known = k .0; some = f tt; few = omega arith }, later)
+    go true false f later = later
+    go false b f later = later
+
+few-left : (zones : List Zone) → length (workOf zones) ≤ length zones
+unfolding workOf
+few-left [] = omega arith
+few-left (zone ∷ zones) = go (leftIn zone) (few-left zones)
+  where
+    go : (t : Bool) → length (workOf zones) ≤ length zones → length (cond t (zone ∷ workOf zones) (workOf zones)) ≤ suc (length zones)
+    go true h = omega arith
+    go false h = omega arith
+
+every-unmap : {A B : Type 0} (P : B → Type 0) (f : A → B) (xs : List A) → Every P (map f xs) → Every (λ (x : A). P (f x)) xs
+every-unmap P f [] h = tt
+every-unmap P f (x ∷ xs) h = (h .0, every-unmap P f xs (h .1))
+
+-- ---- the ceiling of an accepted job
+abbrev most : ℕ
+most = 1031
+
+least-num : Num leastCeiling
+unfolding ofBits fits
+least-num = record { fit = tt; fine = tt }
+
+least-val : val leastCeiling ≡ signed false (mag leastCeiling)
+unfolding ofBits sgn
+least-val = refl
+
+least-is : mag leastCeiling * 1024 ≡ U
+unfolding ofBits mag U
+least-is = refl
+
+not-low : (top : Chosen) → lowFault top ≡ 0 → ((r-hi : Float) → top ≡ some r-hi → Sized r-hi most) → (r-hi : Float) → top ≡ some r-hi → val leastCeiling ≼ val r-hi
+unfolding lowFault
+not-low top e s r-hi h = le→≼ leastCeiling r-hi least-num (s r-hi h .num) (yes (passed 16 (r-hi ≥ᶠ leastCeiling) (omega arith) (subst (λ (c : Chosen). lowFault c ≡ 0) h e)))
+
+topped : (top : Chosen) → lowFault top ≡ 0 → ((r-hi : Float) → top ≡ some r-hi → Sized r-hi most) → Topped most top
+topped top e s =
+    record {
+      sized = s;
+      nonneg = λ r h. above r (rw least-val at (not-low top e s r h));
+      least = λ r h. let l = rw least-val at (not-low top e s r h) in omega (arith, l, least-is, plain (sgn r) (mag r) (above r l));
+    }
+  where
+    above : (r : Float) → signed false (mag leastCeiling) ≼ val r → Nonneg r
+    above r l = omega (arith, l)
+
+-- ---- the whole
+accepted : (s : List ℕ) (first second : List Float) (sheet : List ℕ) → numberOf s first second sheet ≡ 0 → (itemsFault s ≡ 0) × (ceilingFault (jobOf s) ≡ 0)
+unfolding numberOf
+accepted s first second sheet e =
+    let a = both (lentFault s) _ e .1 in
+    let b = both (workFault (length first) (length second)) _ a .1 in
+    let c = both (itemsFault s) _ b in
+    let d = both (sheetFault (jobOf s) (length sheet)) _ (c .1) .1 in
+    (c .0, both (searchFault (jobOf s)) _ d .1)
+
+ceiling-sized : (job : Job) → JobKnown job → (radius : Radius) (r-hi : Float) → ceilingOf (job .options) (workOf (job .zones)) radius ≡ some r-hi → Sized r-hi most
+unfolding ceilingOf
+ceiling-sized job k (Stated r) r-hi e = let z : _≡_ {A = ℕ} 0 1 = cc in absurd (omega arith)
+ceiling-sized job k Auto r-hi e =
+    let g = boundary-gap (job .options) (k .options) in
+    let known = every-weaken LeftIn (λ (zone : Zone). All PieceKnown (zone .pieces)) (workOf (job .zones)) (λ zone l. l .known .pieces) (left-in (job .zones) (k .zones) (k .marks)) in
+    ceiling-known room (boundaryGapOf (job .options)) (job .options .precision) (g .sized) (g .nonneg) (workOf (job .zones)) known r-hi e .sized
+
+-- a job without fault, its sheet and any bytes after it
+kept : (s : List ℕ) → itemsFault s ≡ 0 → ceilingFault (jobOf s) ≡ 0 → (ys : List ℕ) → SheetKept s (sheetOf (sheetFor (placementsOf (jobOf s))) ++ ys)
+unfolding ceilingFault placementsOf sheetFor
+kept s i c ys =
+    let job = jobOf s in
+    let p = placementsOf job in
+    let k = job-known s i in
+    let l = left-in (job .zones) (k .zones) (k .marks) in
+    let h = placements-kept most (omega arith) (omega arith) source (job .options) (k .options) (rectangles (job .obstacles)) (job .zones) l (topped (ceilingOf (job .options) (workOf (job .zones)) (job .options .radius)) c (ceiling-sized job k (job .options .radius))) in
+    let few : length (p .zones) ≤ 64 = omega (arith, sym (length-map (p .zones) (λ (placed : Placed). placed .zone)), ap length (h .same), few-left (job .zones), k .fewZones) in
+    let inside : Every (λ (placed : Placed). LeftIn (placed .zone)) (p .zones) = every-unmap LeftIn (λ (placed : Placed). placed .zone) (p .zones) (rw (h .same) l) in
+    let w : WritableSheet (sheetFor p) =
+    record {
+      fit = h .fit;
+      few = rw (length-map (p .zones) placementOf) (omega (arith, few));
+      zones = all-writable (job .options) (pillarsOf job) (p .radius) (p .zones) inside (h .own);
+    } in
+    record { left-in = h .same; radius = rw (sheet-back (sheetFor p) ys w); zones = rw (sheet-back (sheetFor p) ys w) (zones-kept (job .options) (pillarsOf job) (p .radius) (p .zones) inside (h .own)) }
+
+-- THE CLAIM: whatever bytes and slices are lent, where the call gives a sheet
+pub demand-3 : (s : List ℕ) (first second : List Float) (sheet : List ℕ) → planOf s first second sheet .number ≡ 0 → SheetKept s (planOf s first second sheet .sheet)
+unfolding planOf given refused written
+demand-3 s first second sheet e = go (eqb n 0) refl e
+  where
+    n : ℕ
+    n = numberOf s first second sheet
+
+    plan : Bool → Plan
+    plan t = cond t (given (placementsOf (jobOf s)) first second sheet) (refused n first second sheet)
+
+    go : (t : Bool) → eqb n 0 ≡ t → plan t .number ≡ 0 → SheetKept s (plan t .sheet)
+    go true f e = let a = accepted s first second sheet (eqb→eq n 0 (yes f)) in kept s (a .0) (a .1) _
+    go false f e = absurd (subst (λ (t : Bool). T (not t)) (sym f ∙ eq-eqb n 0 e) tt)
