@@ -15,7 +15,8 @@ use Rattle.format.specs.Rows.{_unless_, _orElse_}
 use Rattle.sheet.specs.Sheet.{Placement, readSheet}
 use Rattle.job.specs.Head.{workFault}
 use Rattle.job.specs.Job.{zonesRoom, sheetRoom, sheetFault}
-use Rattle.job.specs.Plan.{startsDeepest, isSearched, overflows, piecesFit, searchFault, lowFault, ceilingOf, ceilingFault, numberOf, given, planOf}
+use Rattle.discs.specs.Searches.{startsDeepest, isSearched, searched, searchesIn, hadRoom}
+use Rattle.job.specs.Plan.{searchFault, lowFault, ceilingOf, ceilingFault, numberOf, given, planOf}
 use Rattle.claims.specs.Claim.{Inset, Away, FarApart, PieceKept, ZoneKept, Zones, SheetKept}
 use Rattle.claims.specs.Demand.{demand-3}
 use Rattle.claims.specs.Example.{job, lent, read, options, square, said, says, corner, pillar, ctx, one, other, shared, kept-near, placed, pillars, found, inset-is, spacing-is}
@@ -25,9 +26,9 @@ fits : (n : ℕ) → 53 ≤ n → sheetFault said n ≡ 0
 unfolding sheetFault sheetRoom zonesRoom workOf leftIn _unless_
 fits n h = rw (le-leb 53 n h)
 
-searched : searchFault said ≡ 0
-unfolding searchFault all piecesFit overflows isSearched startsDeepest workOf leftIn _unless_ Ieee.lt Ieee.ofBits Ieee.ofFields Ieee.odd
-searched = rw shared
+roomy : searchFault said ≡ 0
+unfolding searchFault all searchesIn searched hadRoom isSearched startsDeepest workOf leftIn _unless_ Ieee.lt Ieee.ofBits Ieee.ofFields Ieee.odd
+roomy = rw shared
 
 not-low : ceilingFault said ≡ 0
 unfolding ceilingFault ceilingOf lowFault
@@ -39,7 +40,7 @@ lent-enough m n h g = rw (le-leb 8000 m h, le-leb 8000 n g)
 
 numbered : (first second : List Float) (sheet : List ℕ) → 8000 ≤ length first → 8000 ≤ length second → 53 ≤ length sheet → numberOf job first second sheet ≡ 0
 unfolding numberOf _orElse_
-numbered first second sheet f g h = rw (lent, lent-enough (length first) (length second) f g, read, says, fits (length sheet) h, searched, not-low)
+numbered first second sheet f g h = rw (lent, lent-enough (length first) (length second) f g, read, says, fits (length sheet) h, roomy, not-low)
 
 accepted : (first second : List Float) (sheet : List ℕ) → 8000 ≤ length first → 8000 ≤ length second → 53 ≤ length sheet → planOf job first second sheet .number ≡ 0
 unfolding planOf given

@@ -30,7 +30,8 @@ use Rattle.deepest.specs.declared.search.Deepest.{Deepest}
 use Rattle.deepest.specs.declared.search.Deepest.the-variants.{Found, Nothing, Full}
 use Rattle.deepest.specs.Deepest.{poiWithHoles}
 use Rattle.discs.specs.Region.{Zone}
-use Rattle.discs.specs.Radius.{none, some, lowered, analyticRHi}
+use Rattle.discs.specs.declared.ceiling.Chosen.the-variants.{None, Some}
+use Rattle.discs.specs.Radius.{lowered, ifPositive, analyticRHi}
 use Rattle.claims.specs.Deepest.{OfFound, Deep, poi-deep}
 
 -- ---- 1 + gap
@@ -82,18 +83,18 @@ module _ (room : ℕ) (gap precision : Float) (G : Sized gap 16) (o : Nonneg gap
         bound = inr (record { top = q; sized = Q; below = le-trans (min m other) m q (min-le-l m other (min-number-r r q (sized-number Q))) (min-le-r r q (sized-number Q)) });
       }
 
-  lowered-held : (r : Float) (zone : Zone) → All PieceKnown (zone .pieces) → Held r → Held (lowered room gap precision r zone)
+  lowered-held : (r : Float) (zone : Zone) (d : Deepest) → OfFound Deep d → Held r → Held (lowered gap r zone d)
   unfolding lowered
-  lowered-held r zone k h = go (poiWithHoles room precision (zone .pieces)) refl (poi-deep room precision (zone .pieces) k)
-    where
-      go : (d : Deepest) → poiWithHoles room precision (zone .pieces) ≡ d → OfFound Deep d → Held (lowered room gap precision r zone)
-      go Nothing e g = rw e h
-      go Full e g = rw e h
-      go (Found x y clearance) e g = rw e (found-held r clearance _ (h .fit) (g .sized) (rootOf-fits binary64 _ (div-fits binary64 _ _)))
+  lowered-held r zone Nothing g h = h
+  lowered-held r zone Full g h = h
+  lowered-held r zone (Found x y clearance) g h = found-held r clearance _ (h .fit) (g .sized) (rootOf-fits binary64 _ (div-fits binary64 _ _))
 
-  work-held : (work : List Zone) → Every (λ (zone : Zone). All PieceKnown (zone .pieces)) work → (r : Float) → Held r → Held (foldl (lowered room gap precision) r work)
+  abbrev bounded : Float → Zone → Float
+  bounded r zone = lowered gap r zone (poiWithHoles room precision (zone .pieces))
+
+  work-held : (work : List Zone) → Every (λ (zone : Zone). All PieceKnown (zone .pieces)) work → (r : Float) → Held r → Held (foldl bounded r work)
   work-held [] k r h = h
-  work-held (zone ∷ work) k r h = work-held work (k .1) (lowered room gap precision r zone) (lowered-held r zone (k .0) h)
+  work-held (zone ∷ work) k r h = work-held work (k .1) (bounded r zone) (lowered-held r zone (poiWithHoles room precision (zone .pieces)) (poi-deep room precision (zone .pieces) (k .0)) h)
 
   not-finite : isFinite ∞ ≡ false
   unfolding isFinite abs lt ofBits
@@ -108,12 +109,12 @@ module _ (room : ℕ) (gap precision : Float) (G : Sized gap 16) (o : Nonneg gap
       go (inr u) = ranged (h .fit) (wider (omega arith) zero-sized) (u .sized) (lt-le 0ᶠ r p) (u .below)
 
   -- THE CEILING
-  pub ceiling-known : (work : List Zone) → Every (λ (zone : Zone). All PieceKnown (zone .pieces)) work → (r-hi : Float) → analyticRHi room work gap precision ≡ some r-hi → Top r-hi
-  unfolding analyticRHi
+  pub ceiling-known : (work : List Zone) → Every (λ (zone : Zone). All PieceKnown (zone .pieces)) work → (r-hi : Float) → analyticRHi room work gap precision ≡ Some r-hi → Top r-hi
+  unfolding analyticRHi ifPositive
   ceiling-known work k r-hi e = go (isFinite r && r >ᶠ 0ᶠ) refl e
     where
       r : Float
-      r = foldl (lowered room gap precision) ∞ work
+      r = foldl bounded ∞ work
 
       top : T (isFinite r && r >ᶠ 0ᶠ) → Top r
       top t =
@@ -121,6 +122,6 @@ module _ (room : ℕ) (gap precision : Float) (G : Sized gap 16) (o : Nonneg gap
           let s = kept r (work-held work k ∞ (record { fit = ofBits-fits binary64 0x7ff0_0000_0000_0000; bound = inl refl })) (and-l (isFinite r) (r >ᶠ 0ᶠ) t) p in
           record { sized = s; nonneg = rw zero-val at (le→≼ 0ᶠ r zero-num (s .num) (lt-le 0ᶠ r p)) }
 
-      go : (b : Bool) → isFinite r && r >ᶠ 0ᶠ ≡ b → cond b (some r) none ≡ some r-hi → Top r-hi
+      go : (b : Bool) → isFinite r && r >ᶠ 0ᶠ ≡ b → cond b (Some r) None ≡ Some r-hi → Top r-hi
       go true t e = let q : r ≡ r-hi = cc in subst Top q (top (yes t))
       go false t e = let z : _≡_ {A = ℕ} 0 1 = cc in absurd (omega arith)

@@ -16,13 +16,13 @@ use Rattle.float.specs.Ops.{_≥ᶠ_}
 use Rattle.rounding.specs.Signed.{plain, signed, _≼_}
 use Rattle.rounding.specs.Value.{U, sgn, mag, val, Num}
 use Rattle.rounding.specs.Comparison.{le→≼}
-use Rattle.rounding.specs.Bounds.{Sized}
-use Rattle.rounding.specs.Signs.{Nonneg}
 use Rattle.glyphs.specs.Rect.{rectangles}
 use Rattle.discs.specs.Region.{Zone}
 use Rattle.discs.specs.declared.options.Radius.{Radius}
 use Rattle.discs.specs.declared.options.Radius.the-variants.{Auto, Stated}
-use Rattle.discs.specs.Radius.{Chosen, some, boundaryGapOf}
+use Rattle.discs.specs.declared.ceiling.Chosen.{Chosen}
+use Rattle.discs.specs.declared.ceiling.Chosen.the-variants.{None, Some}
+use Rattle.discs.specs.Radius.{boundaryGapOf, analyticRHi}
 use Rattle.discs.specs.PlaceGlyphs.{Placed, leftIn, workOf}
 use Rattle.format.specs.RowLaws.{both, passed}
 use Rattle.format.specs.Known.{All, PieceKnown}
@@ -33,10 +33,11 @@ use Rattle.job.specs.Job.{Job, jobOf, itemsFault, sheetFault}
 use Rattle.job.specs.Known.{ZoneKnown, marksOf, JobKnown, job-known}
 use Rattle.job.specs.Plan.{room, leastCeiling, lowFault, ceilingOf, searchFault, ceilingFault, numberOf, source, placementsOf, placementOf, sheetFor, Plan, given, refused, planOf}
 use Rattle.claims.specs.Claim.{pillarsOf, SheetKept}
-use Rattle.claims.specs.Ceilings.{ceiling-known}
+use Rattle.claims.specs.Ceilings.{Top, ceiling-known}
+use Rattle.claims.specs.Chosen.{High, TopKnown}
 use Rattle.claims.specs.Entries.{all-writable, zones-kept}
 use Rattle.claims.specs.Measured.{boundary-gap}
-use Rattle.claims.specs.Placings.{LeftIn, Topped, placements-kept}
+use Rattle.claims.specs.Placings.{LeftIn, placements-kept}
 
 -- ---- the zones left in
 left-in : (zones : List Zone) → All ZoneKnown zones → marksOf zones ≤ 2000 → Every LeftIn (workOf zones)
@@ -78,21 +79,6 @@ least-is : mag leastCeiling * 1024 ≡ U
 unfolding ofBits mag U
 least-is = refl
 
-not-low : (top : Chosen) → lowFault top ≡ 0 → ((r-hi : Float) → top ≡ some r-hi → Sized r-hi most) → (r-hi : Float) → top ≡ some r-hi → val leastCeiling ≼ val r-hi
-unfolding lowFault
-not-low top e s r-hi h = le→≼ leastCeiling r-hi least-num (s r-hi h .num) (yes (passed 16 (r-hi ≥ᶠ leastCeiling) (omega arith) (subst (λ (c : Chosen). lowFault c ≡ 0) h e)))
-
-topped : (top : Chosen) → lowFault top ≡ 0 → ((r-hi : Float) → top ≡ some r-hi → Sized r-hi most) → Topped most top
-topped top e s =
-    record {
-      sized = s;
-      nonneg = λ r h. above r (rw least-val at (not-low top e s r h));
-      least = λ r h. let l = rw least-val at (not-low top e s r h) in omega (arith, l, least-is, plain (sgn r) (mag r) (above r l));
-    }
-  where
-    above : (r : Float) → signed false (mag leastCeiling) ≼ val r → Nonneg r
-    above r l = omega (arith, l)
-
 -- ---- the whole
 accepted : (s : List ℕ) (first second : List Float) (sheet : List ℕ) → numberOf s first second sheet ≡ 0 → (itemsFault s ≡ 0) × (ceilingFault (jobOf s) ≡ 0)
 unfolding numberOf
@@ -103,23 +89,34 @@ accepted s first second sheet e =
     let d = both (sheetFault (jobOf s) (length sheet)) _ (c .1) .1 in
     (c .0, both (searchFault (jobOf s)) _ d .1)
 
-ceiling-sized : (job : Job) → JobKnown job → (radius : Radius) (r-hi : Float) → ceilingOf (job .options) (workOf (job .zones)) radius ≡ some r-hi → Sized r-hi most
-unfolding ceilingOf
-ceiling-sized job k (Stated r) r-hi e = let z : _≡_ {A = ℕ} 0 1 = cc in absurd (omega arith)
-ceiling-sized job k Auto r-hi e =
-    let g = boundary-gap (job .options) (k .options) in
-    let known = every-weaken LeftIn (λ (zone : Zone). All PieceKnown (zone .pieces)) (workOf (job .zones)) (λ zone l. l .known .pieces) (left-in (job .zones) (k .zones) (k .marks)) in
-    ceiling-known room (boundaryGapOf (job .options)) (job .options .precision) (g .sized) (g .nonneg) (workOf (job .zones)) known r-hi e .sized
+-- its ceiling, where the radius is automatic
+high : (r-hi : Float) → Top r-hi → lowFault (Some r-hi) ≡ 0 → High most r-hi
+unfolding lowFault
+high r-hi t e =
+    let l : signed false (mag leastCeiling) ≼ val r-hi = rw least-val at (le→≼ leastCeiling r-hi least-num (t .sized .num) (yes (passed 16 (r-hi ≥ᶠ leastCeiling) (omega arith) e))) in
+    record { sized = t .sized; nonneg = t .nonneg; least = omega (arith, l, least-is, plain (sgn r-hi) (mag r-hi) (t .nonneg)) }
+
+top-known : (job : Job) → JobKnown job → ceilingFault job ≡ 0 → TopKnown most (job .options .radius) (analyticRHi room (workOf (job .zones)) (boundaryGapOf (job .options)) (job .options .precision))
+unfolding ceilingFault ceilingOf
+top-known job k e = go (job .options .radius) e _ refl
+  where
+    go : (radius : Radius) → lowFault (ceilingOf (job .options) (workOf (job .zones)) radius) ≡ 0 → (top : Chosen) → analyticRHi room (workOf (job .zones)) (boundaryGapOf (job .options)) (job .options .precision) ≡ top → TopKnown most radius top
+    go (Stated r) e top q = tt
+    go Auto e None q = tt
+    go Auto e (Some r-hi) q =
+        let g = boundary-gap (job .options) (k .options) in
+        let known = every-weaken LeftIn (λ (zone : Zone). All PieceKnown (zone .pieces)) (workOf (job .zones)) (λ zone l. l .known .pieces) (left-in (job .zones) (k .zones) (k .marks)) in
+        high r-hi (ceiling-known room (boundaryGapOf (job .options)) (job .options .precision) (g .sized) (g .nonneg) (workOf (job .zones)) known r-hi q) (subst (λ (c : Chosen). lowFault c ≡ 0) q e)
 
 -- a job without fault, its sheet and any bytes after it
 kept : (s : List ℕ) → itemsFault s ≡ 0 → ceilingFault (jobOf s) ≡ 0 → (ys : List ℕ) → SheetKept s (sheetOf (sheetFor (placementsOf (jobOf s))) ++ ys)
-unfolding ceilingFault placementsOf sheetFor
+unfolding placementsOf sheetFor
 kept s i c ys =
     let job = jobOf s in
     let p = placementsOf job in
     let k = job-known s i in
     let l = left-in (job .zones) (k .zones) (k .marks) in
-    let h = placements-kept most (omega arith) (omega arith) source (job .options) (k .options) (rectangles (job .obstacles)) (job .zones) l (topped (ceilingOf (job .options) (workOf (job .zones)) (job .options .radius)) c (ceiling-sized job k (job .options .radius))) in
+    let h = placements-kept most (omega arith) (omega arith) source (job .options) (k .options) (rectangles (job .obstacles)) (job .zones) l (top-known job k c) in
     let few : length (p .zones) ≤ 64 = omega (arith, sym (length-map (p .zones) (λ (placed : Placed). placed .zone)), ap length (h .same), few-left (job .zones), k .fewZones) in
     let inside : Every (λ (placed : Placed). LeftIn (placed .zone)) (p .zones) = every-unmap LeftIn (λ (placed : Placed). placed .zone) (p .zones) (rw (h .same) l) in
     let w : WritableSheet (sheetFor p) =

@@ -40,7 +40,7 @@ use Rattle.discs.specs.declared.options.Radius.the-variants.{Stated}
 use Rattle.discs.specs.declared.options.BoundaryGap.the-variants.{Follows}
 use Rattle.discs.specs.Region.{Zone, quotas, deepestOf, packLowDiscrepancyPiece, packPiece, packPieces, packRegion}
 use Rattle.discs.specs.Radius.{contextAt}
-use Rattle.discs.specs.PlaceGlyphs.{leftIn, workOf, pack, packAt, placeWork, placeGlyphs}
+use Rattle.discs.specs.PlaceGlyphs.{leftIn, workOf, pack, packAt, sizeFor, sizing, placeGlyphs}
 use Rattle.format.specs.Rows.{_unless_, _orElse_, faults, past, each}
 use Rattle.format.specs.Numbers.{uint, item, inRange, coordIn, coordAt, coordOf, share as part}
 use Rattle.format.specs.Pieces.{ring, ringFault, ringEnd, piece, pieceFault, pieceEnd}
@@ -156,11 +156,11 @@ unfolding rectangles rectsFrom rectAt sanitizeObstacles filter sane isFinite abs
 pillars = refl
 
 pub placed : placedOf said ≡ record { zone = square; spots = (one ∷ other ∷ []) ∷ [] } ∷ []
-unfolding placementsOf placeGlyphs placeWork packAt workOf leftIn isFinite abs Ieee.lt Ieee.ofBits Ieee.ofFields Ieee.odd
+unfolding placementsOf placeGlyphs sizing sizeFor packAt workOf leftIn isFinite abs Ieee.lt Ieee.ofBits Ieee.ofFields Ieee.odd
 placed = rw (pillars, packed)
 
 pub found : placementsOf said .radius ≡ 1ᶠ
-unfolding placementsOf placeGlyphs placeWork packAt workOf leftIn isFinite abs Ieee.lt Ieee.ofBits Ieee.ofFields Ieee.odd
+unfolding placementsOf placeGlyphs sizing sizeFor packAt workOf leftIn isFinite abs Ieee.lt Ieee.ofBits Ieee.ofFields Ieee.odd
 found = refl
 
 pub inset-is : inset ctx ≡ 1ᶠ

@@ -3,7 +3,6 @@
 use mathlib.Core.Path.{_≡_, sym, ap, _∙_}
 use mathlib.Core.Logic.{inl, inr}
 use mathlib.Core.Bool.{Bool, true, false, cond}
-use mathlib.Core.List.{List, []}
 use Prim.Native.Nat.{ℕ, zero, suc, _+_, _-_, _*_, _^_, _≤_, _<_}
 use native.Mathlib.Nat.{le-trans, le-of-eq, le-of-lt, mul-le-mul, mul-le-mul-left, mul-left-comm}
 use native.Mathlib.Omega.{arith}
@@ -18,12 +17,11 @@ use Rattle.rounding.specs.Comparison.{≼→le}
 use Rattle.rounding.specs.Errors.{sub-of-finite, mul-of-finite}
 use Rattle.rounding.specs.Bounds.{Sized, wider, sub-sized, mul-sized}
 use Rattle.rounding.specs.Signs.{Nonneg, zero-num, zero-sized, zero-val, zero-mag, product-nonneg}
-use Rattle.relax.specs.declared.Spreading.{Spreading}
-use Rattle.glyphs.specs.declared.rect.Rectangle.{Rectangle}
 use Rattle.lattice.specs.Uniform.{1e-3ᶠ}
-use Rattle.discs.specs.declared.options.GlyphOptions.{GlyphOptions}
-use Rattle.discs.specs.Region.{Zone}
-use Rattle.discs.specs.Radius.{Chosen, none, some, Search, feasible, halve, autoRadius}
+use Rattle.discs.specs.declared.ceiling.Chosen.{Chosen}
+use Rattle.discs.specs.declared.ceiling.Chosen.the-variants.{None, Some}
+use Rattle.discs.specs.declared.radius.Search.{Search}
+use Rattle.discs.specs.Radius.{halve, autoRadius}
 use Rattle.claims.specs.Middle.{middle, middle-between, half-exact}
 
 -- ---- the ceiling: q * 2 ^ (b + 10) units, so that a 1,024th of it is q * 2 ^ b
@@ -89,8 +87,8 @@ pub record Found (r-hi : Float) (c : Ceiling r-hi) (r : Float) : Type 0 where
   pub high : mag r ≤ mag r-hi
 
 abbrev pub Good : (r-hi : Float) → Ceiling r-hi → Chosen → Type 0
-Good r-hi c none = Unit {0}
-Good r-hi c (some r) = Found r-hi c r
+Good r-hi c None = Unit {0}
+Good r-hi c (Some r) = Found r-hi c r
 
 -- ---- the search ends at a 1,024th
 module _ (r-hi : Float) (c : Ceiling r-hi) where
@@ -119,15 +117,12 @@ one-of P true fit x y z p q r = p
 one-of P false true x y z p q r = q
 one-of P false false x y z p q r = r
 
-module _ (room : ℕ) (numbers : Spreading) (options : GlyphOptions) (obstacles : List Rectangle) (work : List Zone) (r-hi : Float) (c : Ceiling r-hi) where
+module _ (fit : Float → Bool) (r-hi : Float) (c : Ceiling r-hi) where
   abbrev search : ℕ → Float → Float → Chosen → ℕ → Search
-  search turns lo hi best made = halve room numbers options obstacles work r-hi turns lo hi best made
+  search turns lo hi best made = halve fit r-hi turns lo hi best made
 
   abbrev ended : Float → Float → Bool
   ended lo hi = hi -ᶠ lo ≤ᶠ 1e-3ᶠ *ᶠ r-hi
-
-  abbrev trial : Float → Bool
-  trial r = feasible room numbers options obstacles work r-hi r
 
   -- after a success
   after :
@@ -139,18 +134,18 @@ module _ (room : ℕ) (numbers : Spreading) (options : GlyphOptions) (obstacles 
       let mid = middle lo hi in
       let m = middle-between lo hi 65536 (L .sized) G (lit< tt) (L .nonneg) o h in
       let M : Found r-hi c mid = record { sized = m .sized; nonneg = m .nonneg; low = le-trans (L .low) (m .low); high = le-trans (m .high) t } in
-      one-of (Good r-hi c) (ended lo hi) (trial mid) (record { best = best; trials = made }) (search turns mid hi (some mid) (made + 1)) (search turns lo mid best (made + 1)) g
-      (after turns mid hi (some mid) (made + 1) M G o (m .high) t M) (after turns lo mid best (made + 1) L (m .sized) (m .nonneg) (m .low) (le-trans (m .high) t) g)
+      one-of (Good r-hi c) (ended lo hi) (fit mid) (record { best = best; trials = made }) (search turns mid hi (Some mid) (made + 1)) (search turns lo mid best (made + 1)) g
+      (after turns mid hi (Some mid) (made + 1) M G o (m .high) t M) (after turns lo mid best (made + 1) L (m .sized) (m .nonneg) (m .low) (le-trans (m .high) t) g)
 
   -- before the first
   before :
       (turns m : ℕ) (hi : Float) (made : ℕ) → Sized hi 65536 → Nonneg hi → mag hi ≤ mag r-hi → mag hi ≡ c .q * 2 ^ (c .b + m)
-      → Good r-hi c (search turns 0ᶠ hi none made .best)
+      → Good r-hi c (search turns 0ᶠ hi None made .best)
   unfolding halve
   before zero m hi made G o t e = tt
   before (suc turns) zero hi made G o t e = at-end (ended 0ᶠ hi) (ends r-hi c hi G (le-of-eq (e ∙ ap (λ (z : ℕ). c .q * 2 ^ z) (omega arith)))) _
     where
-      at-end : (stop : Bool) → T stop → (later : Search) → Good r-hi c (cond stop (record { best = none; trials = made }) later .best)
+      at-end : (stop : Bool) → T stop → (later : Search) → Good r-hi c (cond stop (record { best = None; trials = made }) later .best)
       at-end true h later = tt
       at-end false h later = absurd h
   before (suc turns) (suc m) hi made G o t e =
@@ -158,16 +153,16 @@ module _ (room : ℕ) (numbers : Spreading) (options : GlyphOptions) (obstacles 
       let w = middle-between 0ᶠ hi 65536 (wider (omega arith) zero-sized) G (lit< tt) (rw zero-val (omega arith)) o (rw zero-mag (omega arith)) in
       let half : mag mid ≡ c .q * 2 ^ (c .b + m) = half-exact hi 65536 (c .q * 2 ^ (c .b + m)) G (lit< tt) o (digits-at (c .q) (c .b + m) (c .small)) (e ∙ twice (c .q) (c .b) m) in
       let M : Found r-hi c mid = record { sized = w .sized; nonneg = w .nonneg; low = le-trans (mul-le-mul-left (c .q) (pow-mono (omega arith))) (le-of-eq (sym half)); high = le-trans (w .high) t } in
-      one-of (Good r-hi c) (ended 0ᶠ hi) (trial mid) (record { best = none; trials = made }) (search turns mid hi (some mid) (made + 1)) (search turns 0ᶠ mid none (made + 1)) tt
-      (after turns mid hi (some mid) (made + 1) M G o (w .high) t M) (before turns m mid (made + 1) (w .sized) (w .nonneg) (le-trans (w .high) t) half)
+      one-of (Good r-hi c) (ended 0ᶠ hi) (fit mid) (record { best = None; trials = made }) (search turns mid hi (Some mid) (made + 1)) (search turns 0ᶠ mid None (made + 1)) tt
+      (after turns mid hi (Some mid) (made + 1) M G o (w .high) t M) (before turns m mid (made + 1) (w .sized) (w .nonneg) (le-trans (w .high) t) half)
     where
       twice : (q b m : ℕ) → q * 2 ^ (b + suc m) ≡ 2 * (q * 2 ^ (b + m))
       twice q b m = ap (λ (z : ℕ). q * 2 ^ z) (omega arith) ∙ ap (λ (z : ℕ). q * z) (pow-add 2 1 (b + m)) ∙ mul-left-comm q 2 (2 ^ (b + m))
 
-  pub searched : Good r-hi c (autoRadius room numbers options obstacles work r-hi .best)
+  pub searched : Good r-hi c (autoRadius fit r-hi .best)
   unfolding autoRadius
-  searched = go (trial r-hi) (before 24 10 r-hi 1 (c .sized) (c .nonneg) (omega arith) (c .is))
+  searched = go (fit r-hi) (before 24 10 r-hi 1 (c .sized) (c .nonneg) (omega arith) (c .is))
     where
-      go : (a : Bool) → Good r-hi c (search 24 0ᶠ r-hi none 1 .best) → Good r-hi c (cond a (record { best = some r-hi; trials = 1 }) (search 24 0ᶠ r-hi none 1) .best)
+      go : (a : Bool) → Good r-hi c (search 24 0ᶠ r-hi None 1 .best) → Good r-hi c (cond a (record { best = Some r-hi; trials = 1 }) (search 24 0ᶠ r-hi None 1) .best)
       go true x = record { sized = c .sized; nonneg = c .nonneg; low = omega (arith, part-is c); high = omega arith }
       go false x = x

@@ -18,13 +18,12 @@ use Rattle.rounding.specs.Errors.{mul-of-finite}
 use Rattle.rounding.specs.Bounds.{Sized, wider, mul-sized}
 use Rattle.rounding.specs.Signs.{Nonneg, zero-sized, zero-val, product-nonneg}
 use Rattle.rounding.specs.Selection.{max-case}
-use Rattle.relax.specs.declared.Spreading.{Spreading}
 use Rattle.glyphs.specs.declared.rect.Rectangle.{Rectangle}
-use Rattle.glyphs.specs.Rect.{sanitizeObstacles}
-use Rattle.discs.specs.declared.options.GlyphOptions.{GlyphOptions}
-use Rattle.discs.specs.Region.{Zone}
-use Rattle.discs.specs.Radius.{Chosen, none, some, Search, autoRadius}
-use Rattle.discs.specs.PlaceGlyphs.{Placements, ¼ᶠ, orElse, workOf, packAt, packUnder}
+use Rattle.discs.specs.declared.ceiling.Chosen.{Chosen}
+use Rattle.discs.specs.declared.ceiling.Chosen.the-variants.{None, Some}
+use Rattle.discs.specs.declared.radius.Size.{Size}
+use Rattle.discs.specs.Radius.{autoRadius}
+use Rattle.discs.specs.PlaceGlyphs.{¼ᶠ, orElse, sizeUnder}
 use Rattle.claims.specs.Middle.{half-twice, half-sized, half-nonneg}
 use Rattle.claims.specs.Halved.{Ceiling, part, part-is, Found, Good, searched}
 
@@ -80,8 +79,8 @@ module _ (r-hi : Float) (c : Ceiling r-hi) where
       scaled a m r u e h = le-trans (mul-le-mul-left a h) (omega (arith, ap (λ (z : ℕ). m * z) e))
 
   free : (best : Chosen) → Good r-hi c best → Found r-hi c (orElse best (¼ᶠ *ᶠ r-hi))
-  free none g = quarter
-  free (some r) g = g
+  free None g = quarter
+  free (Some r) g = g
 
   -- ---- half of what is free of obstacles
   usable : (r : Float) (k : ℕ) → Sized r-hi k → Found r-hi c r → Usable r k
@@ -106,27 +105,28 @@ module _ (r-hi : Float) (c : Ceiling r-hi) where
   ]
 
   walled : (best : Chosen) (b : Float) (k : ℕ) → Sized r-hi k → Good r-hi c best → Usable b k → Usable (max (orElse best 0ᶠ) b) k
-  walled none b k S g h = greater 0ᶠ b k (wider (omega arith) zero-sized) (rw zero-val (omega arith)) h
-  walled (some r) b k S g h = let u = usable r k S g in greater r b k (u .sized) (u .nonneg) h
+  walled None b k S g h = greater 0ᶠ b k (wider (omega arith) zero-sized) (rw zero-val (omega arith)) h
+  walled (Some r) b k S g h = let u = usable r k S g in greater r b k (u .sized) (u .nonneg) h
 
--- THE RADIUS UNDER A CEILING
-pub either : (P : Float → Type 0) (b : Bool) (x y : Placements) → P (x .radius) → P (y .radius) → P (cond b x y .radius)
-either P true x y p q = p
-either P false x y p q = q
+-- THE RADIUS UNDER A CEILING, whatever the trials say
+module _ (fit : List Rectangle → Float → Bool) (obstacles : List Rectangle) (r-hi : Float) (c : Ceiling r-hi) where
+  abbrev best : List Rectangle → Chosen
+  best among = autoRadius (fit among) r-hi .best
 
-module _ (room : ℕ) (numbers : Spreading) (options : GlyphOptions) (given : List Rectangle) (zones : List Zone) (r-hi : Float) (c : Ceiling r-hi) where
-  abbrev search : List Rectangle → Search
-  search obstacles = autoRadius room numbers options obstacles (workOf zones) r-hi
+  pub under-ceiling : (k : ℕ) → k < 65536 → Sized r-hi k → Usable (sizeUnder fit obstacles r-hi .radius) k
+  unfolding sizeUnder
+  under-ceiling k few S = go (eqb (length obstacles) 0)
+    where
+      r-free : Float
+      r-free = orElse (best []) (¼ᶠ *ᶠ r-hi)
 
-  abbrev at : Float → ℕ → ℕ → Placements
-  at r made more = packAt room numbers options given zones r made more
+      f : Found r-hi c r-free
+      f = free r-hi c (best []) (searched (fit []) r-hi c)
 
-  pub under-ceiling : (k : ℕ) → k < 65536 → Sized r-hi k → Usable (packUnder room numbers options given zones r-hi .radius) k
-  unfolding packUnder packAt
-  under-ceiling k few S =
-      let obstacles = sanitizeObstacles given in
-      let r-free = orElse (search [] .best) (¼ᶠ *ᶠ r-hi) in
-      let f : Found r-hi c r-free = free r-hi c (search [] .best) (searched room numbers options [] (workOf zones) r-hi c) in
-      let h = halved r-hi c r-free k few S f in
-      let w = walled r-hi c (search obstacles .best) (½ᶠ *ᶠ r-free) k S (searched room numbers options obstacles (workOf zones) r-hi c) h in
-      either (λ (r : Float). Usable r k) (eqb (length obstacles) 0) (at r-free (search [] .trials) 0) (at (max (orElse (search obstacles .best) 0ᶠ) (½ᶠ *ᶠ r-free)) (search [] .trials) (search obstacles .trials)) (usable r-hi c r-free k S f) w
+      w : Usable (max (orElse (best obstacles) 0ᶠ) (½ᶠ *ᶠ r-free)) k
+      w = walled r-hi c (best obstacles) (½ᶠ *ᶠ r-free) k S (searched (fit obstacles) r-hi c) (halved r-hi c r-free k few S f)
+
+      go : (t : Bool) → Usable (cond {A = Size} t (record { radius = r-free; «free_trials» = autoRadius (fit []) r-hi .trials; «obstacle_trials» = 0 })
+          (record { radius = max (orElse (best obstacles) 0ᶠ) (½ᶠ *ᶠ r-free); «free_trials» = autoRadius (fit []) r-hi .trials; «obstacle_trials» = autoRadius (fit obstacles) r-hi .trials }) .radius) k
+      go true = usable r-hi c r-free k S f
+      go false = w

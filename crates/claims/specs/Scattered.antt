@@ -31,7 +31,6 @@ use Rattle.lattice.specs.Uniform.{localTo}
 use Rattle.scatter.specs.declared.low.Anchor.{Anchor}
 use Rattle.scatter.specs.LowDiscrepancy.{sameℤ, beside, cellNumber, apart, passes, packWithin, packScatter}
 use Rattle.claims.specs.Kept.{Kept, none-kept, kept-by, Sited, Apart, apart-sym, computed-apart}
-use Rattle.claims.specs.Boxed.{Boxed}
 use Rattle.claims.specs.Measures.{BoxSized, Measures}
 use Rattle.claims.specs.Thrown.{AnchorFits, Tested, scattered}
 use Rattle.claims.specs.Counts.{scattered-count}
@@ -75,7 +74,7 @@ not-beside a b t =
     (λ e. never-both (sameℤ b (predℤ a)) (rw (e, pred-suc b) (same-refl b)) (n .0))
 
 -- ---- two spots
-module _ (piece : Piece) (n : ℕ) (ctx : PackCtx) (near : List Rectangle) (anchor : Anchor) (min-x max-x min-y max-y : Float) (held : AnchorFits anchor) (l : Length (spacing ctx)) (z : Boxed min-x max-x min-y max-y) where
+module _ (piece : Piece) (n : ℕ) (ctx : PackCtx) (near : List Rectangle) (anchor : Anchor) (min-x max-x min-y max-y : Float) (held : AnchorFits anchor) (l : Length (spacing ctx)) (z : BoxSized (Box min-x max-x min-y max-y)) where
   tested-apart : (q p : Point) → Sited q → Sited p → Tested piece n ctx near anchor min-x max-x min-y max-y held q p → Apart (spacing ctx) q p
   unfolding apart cellNumber
   tested-apart q p a b t =

@@ -9,3 +9,4 @@ pub mod Floor
 pub mod Walk
 pub mod FlatPieces
 pub mod FloorLaws
+pub mod Searches

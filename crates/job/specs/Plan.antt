@@ -18,6 +18,8 @@ use Rattle.discs.specs.declared.options.Radius.{Radius}
 use Rattle.discs.specs.declared.options.Radius.the-variants.{Auto, Stated}
 use Rattle.discs.specs.Region.{Zone, quotas, placedIn}
 use Rattle.discs.specs.Searches.{searchesIn, hadRoom}
+use Rattle.discs.specs.declared.ceiling.Chosen.{Chosen}
+use Rattle.discs.specs.declared.ceiling.Chosen.the-variants.{None, Some}
 use Rattle.discs.specs.Radius.{boundaryGapOf, analyticRHi}
 use Rattle.discs.specs.PlaceGlyphs.{Placed, Placements, workOf, placeGlyphs}
 use Rattle.format.specs.Rows.{_unless_, _orElse_}
