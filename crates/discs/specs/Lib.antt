@@ -1,5 +1,4 @@
 pub mod Region
-pub mod Searches
 pub mod Pieces
 pub mod PieceLaws
 pub mod Joined

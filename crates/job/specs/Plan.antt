@@ -11,8 +11,6 @@ use Rattle.float.specs.Ops.{_≥ᶠ_, 0ᶠ, 2ᶠ, literal}
 use Rattle.glyphs.specs.Rect.{rectangles}
 use Rattle.glyphs.specs.Spots.{flat}
 use Rattle.relax.specs.declared.Spreading.{Spreading}
-use Rattle.discs.specs.declared.ceiling.Chosen.{Chosen}
-use Rattle.discs.specs.declared.ceiling.Chosen.the-variants.{None, Some}
 use Rattle.discs.specs.declared.options.GlyphOptions.{GlyphOptions}
 use Rattle.discs.specs.declared.options.Radius.{Radius}
 use Rattle.discs.specs.declared.options.Radius.the-variants.{Auto, Stated}
