@@ -1,0 +1,7 @@
+// The call from job bytes to sheet.
+pub mod clear;
+pub mod parts;
+pub mod pillars;
+pub mod searches;
+pub mod shares;
+pub mod zones;
