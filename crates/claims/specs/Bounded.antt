@@ -9,10 +9,10 @@ use borrow.Author.Tests.{le-ltb}
 use lib.Dec.{T, lit<}
 use lib.Ieee.{Float, binary64, fits, lt, le}
 use Rattle.laws.specs.Truth.{no}
-use Rattle.float.specs.Ops.{_≤ᶠ_, _<ᶠ_, 0ᶠ, ∞}
+use Rattle.float.specs.Ops.{0ᶠ, ∞}
 use Rattle.float.specs.Laws.Nan.{Number}
 use Rattle.float.specs.Laws.Zero.{origin-is}
-use Rattle.float.specs.Laws.Compare.{lt-le, le-trans, le-self, not-lt-le}
+use Rattle.float.specs.Laws.Compare.{le-trans, le-self, not-lt-le}
 use Rattle.rounding.specs.Comparison.{le→≼}
 use Rattle.rounding.specs.Bounds.{Sized, wider, ranged}
 use Rattle.rounding.specs.Signs.{zero-num, zero-val, zero-sized}
@@ -28,7 +28,7 @@ use Rattle.regions.specs.Sizes.{sized-number}
 use Rattle.format.specs.Known.{RingKnown, PieceKnown}
 use Rattle.claims.specs.Straddle.{inside-between}
 use Rattle.claims.specs.Deep.{some-near}
-use Rattle.claims.specs.Within.{within-outer, inset-within}
+use Rattle.claims.specs.Within.{within-outer}
 
 -- ---- the least square is no more than any edge's
 closer-under : (s b : Float) → Number s → Number b → T (le (closer s b) s)
@@ -79,7 +79,3 @@ module _ (x y : Float) (fx : T (fits binary64 x)) (fy : T (fits binary64 y)) whe
 
   pub clearance-inside : (piece : Piece) → PieceKnown piece → within x y piece ≡ true → Sized (signedClearance x y piece) 1031
   clearance-inside piece k h = rw (inside-is x y piece h) (distance-near piece k (within-outer x y piece h))
-
-  -- so is an inset that some place has
-  pub inset-sized : (inset : Float) (piece : Piece) → PieceKnown piece → T (fits binary64 inset) → T (0ᶠ <ᶠ inset) → T (inset ≤ᶠ signedClearance x y piece) → Sized inset 1031
-  inset-sized inset piece k f i h = ranged f (wider (omega arith) zero-sized) (clearance-inside piece k (inset-within x y inset piece i h)) (lt-le 0ᶠ inset i) h

@@ -31,7 +31,7 @@ use Rattle.deepest.specs.declared.search.Deepest.the-variants.{Found, Nothing, 
 use Rattle.deepest.specs.Deepest.{poiWithHoles}
 use Rattle.discs.specs.Region.{Zone}
 use Rattle.discs.specs.declared.ceiling.Chosen.the-variants.{None, Some}
-use Rattle.discs.specs.Radius.{lowered, ifPositive, analyticRHi}
+use Rattle.discs.specs.Radius.{areaOf, lowered, ifPositive, analyticRHi}
 use Rattle.claims.specs.Deepest.{OfFound, Deep, poi-deep}
 
 -- ---- 1 + gap
@@ -83,18 +83,19 @@ module _ (room : ℕ) (gap precision : Float) (G : Sized gap 16) (o : Nonneg gap
         bound = inr (record { top = q; sized = Q; below = le-trans (min m other) m q (min-le-l m other (min-number-r r q (sized-number Q))) (min-le-r r q (sized-number Q)) });
       }
 
-  lowered-held : (r : Float) (zone : Zone) (d : Deepest) → OfFound Deep d → Held r → Held (lowered gap r zone d)
+  lowered-held : (n : ℕ) (r area : Float) (d : Deepest) → OfFound Deep d → Held r → Held (lowered gap n r area d)
   unfolding lowered
-  lowered-held r zone Nothing g h = h
-  lowered-held r zone Full g h = h
-  lowered-held r zone (Found x y clearance) g h = found-held r clearance _ (h .fit) (g .sized) (rootOf-fits binary64 _ (div-fits binary64 _ _))
+  lowered-held n r area Nothing g h = h
+  lowered-held n r area Full g h = h
+  lowered-held n r area (Found x y clearance) g h = found-held r clearance _ (h .fit) (g .sized) (rootOf-fits binary64 _ (div-fits binary64 _ _))
 
   abbrev bounded : Float → Zone → Float
-  bounded r zone = lowered gap r zone (poiWithHoles room precision (zone .pieces))
+  bounded r zone = lowered gap (zone .count) r (areaOf (zone .pieces)) (poiWithHoles room precision (zone .pieces))
 
   work-held : (work : List Zone) → Every (λ (zone : Zone). All PieceKnown (zone .pieces)) work → (r : Float) → Held r → Held (foldl bounded r work)
   work-held [] k r h = h
-  work-held (zone ∷ work) k r h = work-held work (k .1) (bounded r zone) (lowered-held r zone (poiWithHoles room precision (zone .pieces)) (poi-deep room precision (zone .pieces) (k .0)) h)
+  work-held (zone ∷ work) k r h =
+      work-held work (k .1) (bounded r zone) (lowered-held (zone .count) r (areaOf (zone .pieces)) (poiWithHoles room precision (zone .pieces)) (poi-deep room precision (zone .pieces) (k .0)) h)
 
   not-finite : isFinite ∞ ≡ false
   unfolding isFinite abs lt ofBits

@@ -25,18 +25,11 @@ use Rattle.discs.specs.declared.ceiling.Chosen.the-variants.{None, Some}
 use Rattle.discs.specs.declared.radius.Sizing.{Sizing}
 use Rattle.discs.specs.declared.radius.Sizing.the-variants.{Unplaced, At}
 use Rattle.discs.specs.PlaceGlyphs.{sizeFor}
+use Rattle.job.specs.Known.{RadiusKnown}
 use Rattle.claims.specs.Halved.{ceiling}
 use Rattle.claims.specs.Radii.{Usable, under-ceiling}
 
--- ---- numbers of 1/1024, at most so many
-pub record Shared (most : ℕ) (r : Float) : Type 0 where
-  pub number : ℕ
-  pub few : number ≤ most
-  pub is : r ≡ share number
-
-abbrev pub StatedKnown : Radius → Type 0
-StatedKnown Auto = Unit {0}
-StatedKnown (Stated r) = Shared 1048576 r
+-- ---- a stated radius
 
 -- 1/1024, in units
 unfoldable step : ℕ
@@ -49,7 +42,7 @@ step-is = refl
 share-coordinate : (n : ℕ) → n ≤ 1048576 → Coordinate (share n)
 share-coordinate n h = record { sign = false; count = n; few = h; multiple = share-exact n (omega arith); value = share-value n (omega arith) }
 
-share-nonneg : (n : ℕ) → n ≤ 1048576 → Nonneg (share n)
+pub share-nonneg : (n : ℕ) → n ≤ 1048576 → Nonneg (share n)
 share-nonneg n h = above (val (share n)) (n * 2 ^ 1064) (share-value n (omega arith))
   where
     above : (v : Exact) (m : ℕ) → v ≈ nat m → nat 0 ≼ v
@@ -87,10 +80,10 @@ module _ (k : ℕ) (big : 1024 ≤ k) (few : k < 65536) where
           one-of : (n g : ℕ) → g ≤ suc n * g
           one-of n g = omega arith
 
-  stated-usable : (r : Float) → Shared 1048576 r → T (0ᶠ <ᶠ r) → Usable r k
-  stated-usable r s t = rw (s .is) (share-usable (s .number) (s .few) (rw (s .is) at t))
+  stated-usable : (r : Float) → RadiusKnown (Stated r) → T (0ᶠ <ᶠ r) → Usable r k
+  stated-usable r s t = rw (s .is) (share-usable (s .number) (s .to) (rw (s .is) at t))
 
-  pub sizing-usable : (fit : List Rectangle → Float → Bool) (obstacles : List Rectangle) (radius : Radius) → StatedKnown radius → (top : Chosen) → TopKnown k radius top → SizingUsable k (sizeFor fit obstacles radius top)
+  pub sizing-usable : (fit : List Rectangle → Float → Bool) (obstacles : List Rectangle) (radius : Radius) → RadiusKnown radius → (top : Chosen) → TopKnown k radius top → SizingUsable k (sizeFor fit obstacles radius top)
   unfolding sizeFor
   sizing-usable fit obstacles Auto s None t = tt
   sizing-usable fit obstacles Auto s (Some r-hi) t = under-ceiling fit obstacles r-hi (ceiling r-hi (wider (omega (arith, few)) (t .sized)) (t .nonneg) (t .least)) k few (t .sized)

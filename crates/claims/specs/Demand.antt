@@ -63,7 +63,7 @@ every-unmap : {A B : Type 0} (P : B → Type 0) (f : A → B) (xs : List A) → 
 every-unmap P f [] h = tt
 every-unmap P f (x ∷ xs) h = (h .0, every-unmap P f xs (h .1))
 
--- ---- the ceiling of an accepted job
+-- ---- the ceiling of an accepted job, where its radius is automatic
 abbrev most : ℕ
 most = 1031
 
@@ -79,17 +79,6 @@ least-is : mag leastCeiling * 1024 ≡ U
 unfolding ofBits mag U
 least-is = refl
 
--- ---- the whole
-accepted : (s : List ℕ) (first second : List Float) (sheet : List ℕ) → numberOf s first second sheet ≡ 0 → (itemsFault s ≡ 0) × (ceilingFault (jobOf s) ≡ 0)
-unfolding numberOf
-accepted s first second sheet e =
-    let a = both (lentFault s) _ e .1 in
-    let b = both (workFault (length first) (length second)) _ a .1 in
-    let c = both (itemsFault s) _ b in
-    let d = both (sheetFault (jobOf s) (length sheet)) _ (c .1) .1 in
-    (c .0, both (searchFault (jobOf s)) _ d .1)
-
--- its ceiling, where the radius is automatic
 high : (r-hi : Float) → Top r-hi → lowFault (Some r-hi) ≡ 0 → High most r-hi
 unfolding lowFault
 high r-hi t e =
@@ -107,6 +96,16 @@ top-known job k e = go (job .options .radius) e _ refl
         let g = boundary-gap (job .options) (k .options) in
         let known = every-weaken LeftIn (λ (zone : Zone). All PieceKnown (zone .pieces)) (workOf (job .zones)) (λ zone l. l .known .pieces) (left-in (job .zones) (k .zones) (k .marks)) in
         high r-hi (ceiling-known room (boundaryGapOf (job .options)) (job .options .precision) (g .sized) (g .nonneg) (workOf (job .zones)) known r-hi q) (subst (λ (c : Chosen). lowFault c ≡ 0) q e)
+
+-- ---- the whole
+accepted : (s : List ℕ) (first second : List Float) (sheet : List ℕ) → numberOf s first second sheet ≡ 0 → (itemsFault s ≡ 0) × (ceilingFault (jobOf s) ≡ 0)
+unfolding numberOf
+accepted s first second sheet e =
+    let a = both (lentFault s) _ e .1 in
+    let b = both (workFault (length first) (length second)) _ a .1 in
+    let c = both (itemsFault s) _ b in
+    let d = both (sheetFault (jobOf s) (length sheet)) _ (c .1) .1 in
+    (c .0, both (searchFault (jobOf s)) _ d .1)
 
 -- a job without fault, its sheet and any bytes after it
 kept : (s : List ℕ) → itemsFault s ≡ 0 → ceilingFault (jobOf s) ≡ 0 → (ys : List ℕ) → SheetKept s (sheetOf (sheetFor (placementsOf (jobOf s))) ++ ys)

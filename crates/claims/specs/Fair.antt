@@ -93,7 +93,7 @@ fair f b n w W W0 r = go b
     go false = record { low = lt-of-mul-lt-mul-right U (omega (arith, r .low, e)); high = lt-of-mul-lt-mul-right U (omega (arith, r .high, e)) }
 
 -- a weight of the list is at most the sum
-member : (ws : List Float) → Weights ws → (i : ℕ) → i < length ws → Weight (getD ws i nan) × (mag (getD ws i nan) ≤ sum ws)
+pub member : (ws : List Float) → Weights ws → (i : ℕ) → i < length ws → Weight (getD ws i nan) × (mag (getD ws i nan) ≤ sum ws)
 unfolding sum
 member [] none i l = absurd (omega (arith, l))
 member (w ∷ ws) (more p ps) zero l = (p, omega arith)

@@ -9,8 +9,7 @@ use lib.Pow.{pow-add}
 use lib.Ieee.{Float}
 use Rattle.float.specs.Ops.{_+ᶠ_, _*ᶠ_, _<ᶠ_, 0ᶠ, 1ᶠ, 2ᶠ}
 use Rattle.float.specs.Order.{max}
-use Rattle.rounding.specs.Signed.{Exact, nat, _≼_, _≈_}
-use Rattle.rounding.specs.Value.{U, U-pos, U-is, mag, val, digits, digits-twice}
+use Rattle.rounding.specs.Value.{U, U-pos, U-is, mag, digits, digits-twice}
 use Rattle.rounding.specs.Comparison.{≺→lt}
 use Rattle.rounding.specs.Errors.{mul-of-finite}
 use Rattle.rounding.specs.Bounds.{Sized, wider, mul-sized}
@@ -19,9 +18,10 @@ use Rattle.rounding.specs.Selection.{max-zero-same}
 use Rattle.rounding.specs.Distance.{Length}
 use Rattle.rounding.specs.Row.{two-sized, two-mag, two-plus}
 use Rattle.format.specs.Numbers.{share}
-use Rattle.format.specs.Exact.{share-exact, share-value}
+use Rattle.format.specs.Exact.{share-exact}
 use Rattle.job.specs.Known.{Shares}
 use Rattle.claims.specs.Ceilings.{factor}
+use Rattle.claims.specs.Chosen.{share-nonneg}
 use Rattle.claims.specs.Radii.{Usable}
 
 -- ---- gaps: 0 to 16
@@ -37,11 +37,8 @@ share-gap n h =
         num = m .num;
         size = le-trans (le-of-eq (m .is)) (le-trans (mul-le-mul-right (2 ^ 1064) h) (le-of-eq (mul-assoc 16 1024 (2 ^ 1064) ∙ ap (λ (z : ℕ). 16 * z) (sym (pow-add 2 10 1064) ∙ sym U-is))));
       };
-      nonneg = above (val (share n)) (n * 2 ^ 1064) (share-value n (omega arith));
+      nonneg = share-nonneg n (omega arith);
     }
-  where
-    above : (v : Exact) (m : ℕ) → v ≈ nat m → nat 0 ≼ v
-    above v m e = omega arith
 
 pub not-below : (g : Float) → Gap g → Gap (max g 0ᶠ)
 not-below g h = rw (max-zero-same g (h .sized .num) (h .nonneg)) h

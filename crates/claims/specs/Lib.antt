@@ -3,6 +3,7 @@ pub mod Areas
 pub mod AtWork
 pub mod Beside
 pub mod Bounded
+pub mod Boxed
 pub mod Ceilings
 pub mod Chosen
 pub mod Claim

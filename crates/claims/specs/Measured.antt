@@ -1,51 +1,41 @@
 -- The pieces of an accepted job have, at a radius of 2 ^ -21 to 1,084, the measures that the packers' claims ask for.
 -- Rests on the ranges of its options and coordinates, and on a place with the inset being inside.
-use mathlib.Core.Bool.{Bool, true, false, not, cond, _&&_}
+use mathlib.Core.Path.{_≡_, refl}
 use mathlib.Core.List.{List}
 use Prim.Native.Nat.{ℕ, _≤_}
-use native.Mathlib.Omega.{arith}
-use lib.Dec.{T, ltb, nltb→le, lit≤}
+use lib.Dec.{lit≤}
 use lib.Ieee.{Float}
-use Rattle.float.specs.Ops.{_+ᶠ_, _*ᶠ_, _>ᶠ_, 0ᶠ, 1ᶠ}
+use Rattle.float.specs.Ops.{_+ᶠ_, _*ᶠ_, 0ᶠ, 1ᶠ}
 use Rattle.float.specs.Order.{max}
 use Rattle.rounding.specs.Bounds.{wider}
 use Rattle.glyphs.specs.declared.rect.Rectangle.{Rectangle}
+use Rattle.glyphs.specs.declared.bounds.Bounds.{Bounds}
 use Rattle.glyphs.specs.declared.bounds.Bounds.the-variants.{Box, Nothing}
-use Rattle.glyphs.specs.declared.bounds.Extents.{Extents}
-use Rattle.glyphs.specs.Points.{Ring, vertices}
-use Rattle.glyphs.specs.Bounds.{extentsOf, boxOf, ringBounds}
+use Rattle.glyphs.specs.Points.{Ring}
+use Rattle.glyphs.specs.Bounds.{ringBounds}
 use Rattle.regions.specs.Ring.{Piece, outer}
-use Rattle.regions.specs.Sizes.{Bounded, sized-number}
-use Rattle.deepest.specs.Whole.{framed}
+use Rattle.regions.specs.Sizes.{sized-number}
 use Rattle.lattice.specs.Context.{inset, spacing}
 use Rattle.discs.specs.declared.options.GlyphOptions.{GlyphOptions}
 use Rattle.discs.specs.declared.options.BoundaryGap.{BoundaryGap}
 use Rattle.discs.specs.declared.options.BoundaryGap.the-variants.{Follows, Own}
 use Rattle.discs.specs.Radius.{gapOf, boundaryGapOf}
-use Rattle.format.specs.Exact.{coordinate-sized}
 use Rattle.format.specs.Known.{RingKnown, PieceKnown}
 use Rattle.job.specs.Known.{Shares, BoundaryKnown, OptionsKnown}
 use Rattle.claims.specs.Claim.{context}
+use Rattle.claims.specs.Boxed.{boxed}
 use Rattle.claims.specs.Measures.{BoxSized, Measures}
 use Rattle.claims.specs.Radii.{Usable}
 use Rattle.claims.specs.Insets.{Gap, not-below, gap-of, inset-sized, inset-above, spacing-sized, spacing-length}
-use Rattle.claims.specs.Within.{vertex-x, vertex-y, outer-known, inset-placed}
+use Rattle.claims.specs.Within.{outer-known, inset-placed}
 
 -- ---- the box
-bounded : (ring : Ring) → RingKnown ring → 3 ≤ vertices ring → Bounded ring
-bounded ring k h = record { two = omega arith; xs = λ i l. coordinate-sized (vertex-x ring k i l); ys = λ i l. coordinate-sized (vertex-y ring k i l) }
-
 box-sized : (ring : Ring) → RingKnown ring → BoxSized (ringBounds ring)
-unfolding ringBounds boxOf
-box-sized ring k = go (ltb (vertices ring) 3) (nltb→le (vertices ring) 3) (e .«max_x» >ᶠ e .«min_x» && e .«max_y» >ᶠ e .«min_y»)
+box-sized ring k = go (ringBounds ring) refl
   where
-    e : Extents
-    e = extentsOf ring
-
-    go : (s : Bool) → (T (not s) → 3 ≤ vertices ring) → (t : Bool) → BoxSized (cond s Nothing (cond t (Box (e .«min_x») (e .«max_x») (e .«min_y») (e .«max_y»)) Nothing))
-    go true h t = tt
-    go false h false = tt
-    go false h true = framed ring (bounded ring k (h tt))
+    go : (b : Bounds) → ringBounds ring ≡ b → BoxSized b
+    go Nothing e = tt
+    go (Box min-x max-x min-y max-y) e = boxed ring k min-x max-x min-y max-y e
 
 -- ---- the boundary gap
 boundary-of : (options : GlyphOptions) (b : BoundaryGap) → BoundaryKnown b → Shares 0 16384 (options .gap)

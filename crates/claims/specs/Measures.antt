@@ -9,14 +9,14 @@ use Rattle.glyphs.specs.declared.bounds.Bounds.{Bounds}
 use Rattle.glyphs.specs.declared.bounds.Bounds.the-variants.{Box, Nothing}
 use Rattle.glyphs.specs.Bounds.{ringBounds}
 use Rattle.regions.specs.Ring.{Piece, outer}
-use Rattle.deepest.specs.Whole.{Framed}
 use Rattle.lattice.specs.declared.context.PackCtx.{PackCtx}
 use Rattle.lattice.specs.Context.{inset, spacing}
+use Rattle.claims.specs.Boxed.{Boxed}
 use Rattle.claims.specs.Kept.{Stands, Sited}
 
 abbrev pub BoxSized : Bounds → Type 0
 BoxSized Nothing = Unit {0}
-BoxSized (Box min-x max-x min-y max-y) = Framed (record { «min_x» = min-x; «max_x» = max-x; «min_y» = min-y; «max_y» = max-y })
+BoxSized (Box min-x max-x min-y max-y) = Boxed min-x max-x min-y max-y
 
 pub record Measures (piece : Piece) (ctx : PackCtx) : Type 0 where
   pub box : BoxSized (ringBounds (outer piece))

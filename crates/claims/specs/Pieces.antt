@@ -1,13 +1,14 @@
 -- What a packer places in a piece, whichever the arrangement, and what a zone's pieces hold, keep what is claimed of them.
 -- Rests on the lattice, the scatter and the darts keeping it, and on where the lattice and a lone mark start.
 use mathlib.Core.Path.{_≡_, refl, sym, subst}
-use mathlib.Core.Bool.{Bool, true, false, cond, _&&_}
+use mathlib.Core.Bool.{Bool, true, false, cond}
 use mathlib.Core.List.{List, [], _∷_}
 use Prim.Native.Nat.{ℕ, _≤_}
 use native.Mathlib.Omega.{arith}
 use lib.Dec.{T, eqb}
 use lib.ListN.{length}
 use lib.Ieee.{Float}
+use lib.Ieee.Fits.{and-l, and-r}
 use Rattle.laws.specs.Every.{Every, every-weaken}
 use Rattle.float.specs.Ops.{_≥ᶠ_}
 use Rattle.glyphs.specs.declared.options.GlyphArrangement.{GlyphArrangement}
@@ -50,12 +51,9 @@ away : (clear : Float) (p : Point) (obstacles : List Rectangle) → Unblocked ob
 unfolding clearOfObstacles
 away clear p [] t = tt
 away clear p (rect ∷ rects) t =
-    let s = split (distToRect (p .x) (p .y) rect ≥ᶠ clear) (clearOfObstacles (p .x) (p .y) rects clear) t in
-    (s .0, away clear p rects (s .1))
-  where
-    split : (a b : Bool) → T (a && b) → T a × T b
-    split true b t = (tt, t)
-    split false b t = absurd t
+    let here = distToRect (p .x) (p .y) rect ≥ᶠ clear in
+    let later = clearOfObstacles (p .x) (p .y) rects clear in
+    (and-l here later t, away clear p rects (and-r here later t))
 
 -- ---- in the claim's words
 module _ (ctx : PackCtx) (policy : ObstaclePolicy) (strict : policy ≡ Strict → T (ctx .mode .«strict_obstacles»)) (pillars : List Rectangle) (piece : Piece) (quota : ℕ) where

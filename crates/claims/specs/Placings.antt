@@ -31,7 +31,7 @@ use Rattle.job.specs.Plan.{room}
 use Rattle.claims.specs.Claim.{OwnPieces}
 use Rattle.claims.specs.Measured.{measured}
 use Rattle.claims.specs.Pieces.{region-kept}
-use Rattle.claims.specs.Chosen.{StatedKnown, TopKnown, SizingUsable, sizing-usable}
+use Rattle.claims.specs.Chosen.{TopKnown, SizingUsable, sizing-usable}
 
 -- a zone left in
 pub record LeftIn (zone : Zone) : Type 0 where
@@ -79,11 +79,7 @@ module _ (most : ℕ) (big : 1024 ≤ most) (few : most ≤ 1084) (numbers : Spr
 
   sized : TopKnown most (options .radius) (analyticRHi room (workOf zones) (boundaryGapOf options) (options .precision)) → SizingUsable most (sizing room numbers options given zones)
   unfolding sizing
-  sized t = sizing-usable most big (omega (arith, few)) (feasible room numbers options (workOf zones)) (sanitizeObstacles given) (options .radius) (stated (options .radius) (o .radius)) _ t
-    where
-      stated : (radius : Radius) → RadiusKnown radius → StatedKnown radius
-      stated Auto s = tt
-      stated (Stated r) s = record { number = s .number; few = s .to; is = s .is }
+  sized t = sizing-usable most big (omega (arith, few)) (feasible room numbers options (workOf zones)) (sanitizeObstacles given) (options .radius) (o .radius) _ t
 
   max-fits : (a b : Float) → T (fits binary64 a) → T (fits binary64 b) → T (fits binary64 (max a b))
   unfolding max

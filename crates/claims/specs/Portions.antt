@@ -2,7 +2,7 @@
 -- Rests on the law of quotas, and on the areas of a job's pieces being numbers that are not negative.
 use mathlib.Core.Path.{_≡_, refl, _∙_}
 use mathlib.Core.Bool.{Bool, true, false}
-use mathlib.Core.List.{List, [], _∷_}
+use mathlib.Core.List.{List, _∷_}
 use Prim.Native.Nat.{ℕ, zero, suc, _+_, _*_, _≤_, _<_}
 use native.Mathlib.Omega.{arith}
 use lib.Dec.{T}
@@ -20,7 +20,7 @@ use Rattle.rounding.specs.Value.{E, sgn, mag, val}
 use Rattle.rounding.specs.Comparison.{lt→≺, ≺→lt}
 use Rattle.rounding.specs.Signs.{zero-num, zero-val, positive}
 use Rattle.rounding.specs.Selection.{finite-not-nan}
-use Rattle.rounding.specs.Shares.{Weight, Weights, none, more, sum, Summed, summed}
+use Rattle.rounding.specs.Shares.{Weight, Weights, sum, Summed, summed}
 use Rattle.regions.specs.Area.{pieceArea}
 use Rattle.regions.specs.Facts.{zero-number}
 use Rattle.glyphs.specs.Apportion.{total, noWeight, assigned, apportion}
@@ -28,7 +28,7 @@ use Rattle.discs.specs.Region.{Zone, areas, quotas}
 use Rattle.format.specs.Known.{All, PieceKnown}
 use Rattle.claims.specs.HandOut.{assigned-sum}
 use Rattle.claims.specs.HandOut as HandOut
-use Rattle.claims.specs.Fair.{Weighed, Fair, quotas-sum, quotas-fair}
+use Rattle.claims.specs.Fair.{Weighed, Fair, member, quotas-sum, quotas-fair}
 use Rattle.claims.specs.Areas.{areas-known, total-finite}
 
 -- ---- all to the first
@@ -42,12 +42,6 @@ first-all n zero h = absurd (omega arith)
 first-all n (suc k) h = assigned-sum (n ∷ replicate k 0) ∙ unfold weigh in omega (arith, zeros k)
 
 -- ---- a positive weight makes the sum positive
-in-sum : (ws : List Float) → Weights ws → (j : ℕ) → j < length ws → Weight (getD ws j nan) × (mag (getD ws j nan) ≤ sum ws)
-unfolding sum
-in-sum [] none j h = absurd (omega arith)
-in-sum (w ∷ ws) (more p ps) zero h = (p, omega arith)
-in-sum (w ∷ ws) (more p ps) (suc j) h = let r = in-sum ws ps j (omega arith) in (r .0, omega (arith, r .1))
-
 above : (x : Float) → Weight x → T (0ᶠ <ᶠ x) → 0 < mag x
 above x w t = go (rw zero-val at (lt→≺ 0ᶠ x zero-num (w .num) t))
   where
@@ -95,7 +89,7 @@ module _ (zone : Zone) (k : All PieceKnown (zone .pieces)) (few : length (zone .
   positive-total : (j : ℕ) → j < length (zone .pieces) → T (getD ws j nan >ᶠ 0ᶠ) → T (0ᶠ <ᶠ total ws)
   positive-total j h t =
       let s = total-known in
-      let m = in-sum ws weights j (rw long h) in
+      let m = member ws weights j (rw long h) in
       let a = above (getD ws j nan) (m .0) t in
       let z : 0 < mag (total ws) = some-of (mag (total ws)) (sum ws) (omega (arith, a, m .1)) (s .near .below) in
       ≺→lt 0ᶠ (total ws) zero-num (s .num) (rw (zero-val, positive (total ws) z (s .nonneg)) (omega (arith, z)))

@@ -6,3 +6,8 @@ pub mod Back
 pub mod Left
 pub mod Placing
 pub mod Bytes
+pub mod Sized
+pub mod Own
+pub mod OwnPoints
+pub mod OwnCounts
+pub mod OwnSheet

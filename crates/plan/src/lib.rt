@@ -1,4 +1,5 @@
 // The call from job bytes to sheet.
+pub mod answer;
 pub mod clear;
 pub mod parts;
 pub mod pillars;
