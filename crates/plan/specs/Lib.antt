@@ -6,3 +6,5 @@ pub mod Back
 pub mod Left
 pub mod Placing
 pub mod Bytes
+pub mod Sized
+pub mod Sheets
