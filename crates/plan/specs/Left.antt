@@ -42,7 +42,7 @@ module _ (s rows rings sizes : List ℕ) (coords : List Float) (zone : Zone) (zo
   row : Row
   row = rowOf rows z
 
-  own-row : IsRow s zone (rowOf rows z)
+  pub own-row : IsRow s zone (rowOf rows z)
   own-row = let e : z + 0 ≡ z = omega arith in rw e at (l .isRow zone 0 (omega arith))
 
   ps : List Piece

@@ -8,3 +8,4 @@ pub mod Placing
 pub mod Bytes
 pub mod Sized
 pub mod Sheets
+pub mod Own

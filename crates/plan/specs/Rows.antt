@@ -72,13 +72,13 @@ cut-is p n l = let e : p + n - p ≡ n = omega arith in rw e
 pub length-cut : {A : Type 0} (p n : ℕ) (l : List A) → p + n ≤ length l → length (cut p n l) ≡ n
 length-cut p n l h = length-take-le n (drop p l) (simp length-drop (omega arith))
 
-length-found : (options : GlyphOptions) (left-in : Bool) (pieces : List Piece) (quotas : List ℕ) → length pieces ≤ length quotas → length (foundIn options left-in pieces quotas) ≡ length pieces
+pub length-found : (options : GlyphOptions) (left-in : Bool) (pieces : List Piece) (quotas : List ℕ) → length pieces ≤ length quotas → length (foundIn options left-in pieces quotas) ≡ length pieces
 unfolding foundIn
 length-found options left-in [] quotas h = refl
 length-found options left-in (piece ∷ pieces) [] h = absurd (omega arith)
 length-found options left-in (piece ∷ pieces) (quota ∷ quotas) h = ap suc (length-found options left-in pieces quotas (omega arith))
 
-length-threes : (founds : List Deepest) → length (allThree founds) ≡ length founds * 3
+pub length-threes : (founds : List Deepest) → length (allThree founds) ≡ length founds * 3
 unfolding flatMap
 length-threes [] = refl
 length-threes (found ∷ founds) = simp length-append (omega (arith, length-three found, length-threes founds))
