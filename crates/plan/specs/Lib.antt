@@ -9,3 +9,4 @@ pub mod Bytes
 pub mod Sized
 pub mod Sheets
 pub mod Own
+pub mod Read
