@@ -10,3 +10,4 @@ pub mod Sized
 pub mod Sheets
 pub mod Own
 pub mod Read
+pub mod Sound
