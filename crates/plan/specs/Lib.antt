@@ -11,3 +11,4 @@ pub mod Sheets
 pub mod Own
 pub mod Read
 pub mod Sound
+pub mod Packing

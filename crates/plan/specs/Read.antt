@@ -85,7 +85,7 @@ left-out-fits options [] shares = refl
 left-out-fits options (piece ∷ pieces) [] = refl
 left-out-fits options (piece ∷ pieces) (share ∷ shares) = left-out-fits options pieces shares
 
-left-in-found : (options : GlyphOptions) (pieces : List Piece) (shares : List ℕ) → foundIn options true pieces shares ≡ searchesIn 1600 options pieces shares
+pub left-in-found : (options : GlyphOptions) (pieces : List Piece) (shares : List ℕ) → foundIn options true pieces shares ≡ searchesIn 1600 options pieces shares
 unfolding foundIn foundFor searchesIn
 left-in-found options [] shares = refl
 left-in-found options (piece ∷ pieces) [] = refl

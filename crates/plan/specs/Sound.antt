@@ -39,7 +39,7 @@ sound-full : Sound Full
 unfolding hadRoom
 sound-full h = absurd (never h)
 
-sound-nothing : Sound Nothing
+pub sound-nothing : Sound Nothing
 unfolding sound
 sound-nothing h = refl
 
@@ -101,7 +101,7 @@ one-back Full l h = absurd (never h)
 one-back Nothing l h = rw no-clearance
 one-back (Found x y clearance) l h = rw h
 
-both-true : (a b : Bool) → (a && b) ≡ true → (a ≡ true) × (b ≡ true)
+pub both-true : (a b : Bool) → (a && b) ≡ true → (a ≡ true) × (b ≡ true)
 both-true true b h = (refl, h)
 both-true false b h = absurd (never h)
 
