@@ -7,7 +7,11 @@ pub mod Left
 pub mod Placing
 pub mod Bytes
 pub mod Sized
+pub mod Sheets
 pub mod Own
-pub mod OwnPoints
-pub mod OwnCounts
-pub mod OwnSheet
+pub mod Read
+pub mod Sound
+pub mod Packing
+pub mod Made
+pub mod Asked
+pub mod Whole

@@ -7,7 +7,7 @@ use mathlib.Core.List.{List, [], _∷_}
 use native.Mathlib.Omega.{arith}
 use borrow.Author.Tests.{ltb-true}
 use lib.Dec.{T, eqb, ltb, leb}
-use lib.ListN.{length}
+use lib.ListN.{length, take, drop, length-take, length-drop}
 use lib.Ieee.{Float}
 use Rattle.laws.specs.Sorted.{weigh}
 use Rattle.glyphs.specs.Bounds.{ringBounds}
@@ -54,8 +54,8 @@ use Rattle.plan.specs.Walk.{never}
 use Rattle.plan.specs.Rows.{past-piece}
 use Rattle.plan.specs.Placing.{placeFor, Fair}
 use Rattle.plan.specs.Left.{Left, own-row, own-readable, own-left-in, left-next}
-use Rattle.plan.specs.Own.{Filled, handedFor, own-quotas, shared-next, pointed-next, filled-next, handed-own}
-use Rattle.plan.specs.OwnPoints.{both}
+use Rattle.plan.specs.Own.{length-quotas, length-threes-of, threesOf, Filled, ownOf, own-shares, own-deepest, filled-next, handed-own}
+use Rattle.plan.specs.Sound.{both-true}
 
 -- ---- one piece
 
@@ -150,8 +150,8 @@ module _ (numbers : Spreading) (options : GlyphOptions) (ctx : PackCtx) (obstacl
       let thrown = packQuota numbers options ctx obstacles found piece quota rng in
       omega (arith, quota-count piece quota ctx obstacles spread numbers options found rng, pieces-count pieces deepests shares (thrown .rng))
 
-place-count : (sizing : Sizing) (options : GlyphOptions) (obstacles : List Rectangle) (zone : Zone) → placedIn (placeFor sizing options obstacles (handedFor options zone)) ≤ sum (quotas zone)
-unfolding placeFor packHanded handedFor
+place-count : (sizing : Sizing) (options : GlyphOptions) (obstacles : List Rectangle) (zone : Zone) → placedIn (placeFor sizing options obstacles (ownOf options zone)) ≤ sum (quotas zone)
+unfolding placeFor packHanded
 place-count Unplaced options obstacles zone = unfold placedIn in omega arith
 place-count (At size) options obstacles zone =
     pieces-count source options (contextAt options (pack options) (size .radius)) obstacles refl (zone .pieces) _ (quotas zone) (seeded (options .seed) (fnv1a (zone .key)))
@@ -168,57 +168,67 @@ module _ (s rows rings sizes : List ℕ) (coords : List Float) (zone : Zone) (zo
   quota-sum e =
       let r = own-row s rows rings sizes coords zone zones z at l in
       let i : leftIn zone ≡ true = sym (own-left-in s rows rings sizes coords zone zones z at l) ∙ e in
-      let some = ltb-true 0 (length (zone .pieces)) (both (ltb 0 (zone .count)) (ltb 0 (length (zone .pieces))) i .1) in
+      let some = ltb-true 0 (length (zone .pieces)) (both-true (ltb 0 (zone .count)) (ltb 0 (length (zone .pieces))) i .1) in
       let k = l .known .0 in
       sum-same (quotas zone) ∙ sym (assigned-sum (quotas zone)) ∙ zone-sum zone (k .pieces) (k .few) some (rw (← r .count) (r .fits .few)) ∙ sym (r .count)
 
   module _ (options : GlyphOptions) (shares : List ℕ) (deepest : List Float) (f : Filled options shares deepest (zone ∷ zones) at) where
-    packable : Packable s rings sizes coords shares deepest (rowOf rows z) at
-    packable =
+    shares-fit : at .piece ≤ length shares → at .piece + rowOf rows z .pieces ≤ length shares
+    shares-fit h =
+        omega (arith, h, ap length (own-shares options s rows rings sizes coords shares deepest zone zones z at l f), length-quotas zone, own-row s rows rings sizes coords zone zones z at l .pieces,
+        length-take (rowOf rows z .pieces) (drop (at .piece) shares), length-drop (at .piece) shares)
+
+    deepest-fit : at .piece * 3 ≤ length deepest → (at .piece + rowOf rows z .pieces) * 3 ≤ length deepest
+    deepest-fit h =
+        omega (arith, h, ap length (own-deepest options s rows rings sizes coords shares deepest zone zones z at l f), length-threes-of options zone, own-row s rows rings sizes coords zone zones z at l .pieces,
+        length-take (rowOf rows z .pieces * 3) (drop (at .piece * 3) deepest), length-drop (at .piece * 3) deepest)
+
+    packable : at .piece ≤ length shares → at .piece * 3 ≤ length deepest → Packable s rings sizes coords shares deepest (rowOf rows z) at
+    packable p q =
         let r = own-readable s rows rings sizes coords zone zones z at l in
-        let past = past-piece rings sizes (rowOf rows z) at in
         record {
           stands = record {
             pieces = r .ringed;
             ring = r .sized;
             coord = r .within;
             laid = r .laid;
-            points = rw past at (pointed-next s rows rings sizes coords zone zones z at l options deepest (f .pointed) .within);
+            points = deepest-fit q;
             marks = r .marks;
           };
           key = own-row s rows rings sizes coords zone zones z at l .inside;
-          shared = rw past at (shared-next s rows rings sizes coords zone zones z at l shares (f .shared) .within);
-          few = λ (e : rowIsLeftIn (rowOf rows z) ≡ true). rw (own-quotas s rows rings sizes coords zone zones z at l shares (f .shared), quota-sum e) (r .marks);
+          shared = shares-fit p;
+          few = λ (e : rowIsLeftIn (rowOf rows z) ≡ true). rw (own-shares options s rows rings sizes coords shares deepest zone zones z at l f, quota-sum e) (r .marks);
         }
 
     fair : (sizing : Sizing) (obstacles : List Rectangle) → Fair sizing options obstacles s rings sizes coords shares deepest (rowOf rows z) at
     unfolding Fair
-    fair sizing obstacles e = rw (handed-own s rows rings sizes coords zone zones z at l options shares deepest f, ← quota-sum e) (place-count sizing options obstacles zone)
+    fair sizing obstacles e = rw (handed-own options s rows rings sizes coords shares deepest zone zones z at l f, ← quota-sum e) (place-count sizing options obstacles zone)
 
 -- ---- all zones
 
-module _ (s rows rings sizes : List ℕ) (coords : List Float) (options : GlyphOptions) (shares : List ℕ) (deepest : List Float) where
+module _ (options : GlyphOptions) (s rows rings sizes : List ℕ) (coords : List Float) (shares : List ℕ) (deepest : List Float) where
   all-packable :
-      (zones : List Zone) (z : ℕ) (at : Offsets) → Left s rows rings sizes coords zones z at → Filled options shares deepest zones at
+      (zones : List Zone) (z : ℕ) (at : Offsets) → Left s rows rings sizes coords zones z at → Filled options shares deepest zones at → at .piece ≤ length shares → at .piece * 3 ≤ length deepest
       → EachRow rows rings sizes (Packable s rings sizes coords shares deepest) (length zones) z at
   unfolding EachRow
-  all-packable [] z at l f = tt
-  all-packable (zone ∷ zones) z at l f = (
-    packable s rows rings sizes coords zone zones z at l options shares deepest f,
-    all-packable zones (z + 1) (pastRow rings sizes (rowOf rows z) at) (left-next s rows rings sizes coords zone zones z at l) (filled-next s rows rings sizes coords zone zones z at l options shares deepest f),
-  )
+  all-packable [] z at l f p q = tt
+  all-packable (zone ∷ zones) z at l f p q =
+      let past = past-piece rings sizes (rowOf rows z) at in
+      (packable s rows rings sizes coords zone zones z at l options shares deepest f p q,
+      all-packable zones (z + 1) (pastRow rings sizes (rowOf rows z) at) (left-next s rows rings sizes coords zone zones z at l) (filled-next options s rows rings sizes coords shares deepest zone zones z at l f)
+      (rw past (shares-fit s rows rings sizes coords zone zones z at l options shares deepest f p))
+      (rw past (deepest-fit s rows rings sizes coords zone zones z at l options shares deepest f q)))
 
   pub floor-is :
       (zones : List Zone) → Left s rows rings sizes coords zones 0 start → Filled options shares deepest zones start → length zones * 4 ≤ length rows
       → Floor s (length zones) rows rings sizes coords shares deepest
-  floor-is zones l f h = record { long = h; each = all-packable zones 0 start l f }
+  floor-is zones l f h = record { long = h; each = all-packable zones 0 start l f (omega arith) (omega arith) }
 
   pub all-fair :
       (sizing : Sizing) (obstacles : List Rectangle) (zones : List Zone) (z : ℕ) (at : Offsets) → Left s rows rings sizes coords zones z at → Filled options shares deepest zones at
       → EachRow rows rings sizes (Fair sizing options obstacles s rings sizes coords shares deepest) (length zones) z at
   unfolding EachRow
   all-fair sizing obstacles [] z at l f = tt
-  all-fair sizing obstacles (zone ∷ zones) z at l f = (
-    fair s rows rings sizes coords zone zones z at l options shares deepest f sizing obstacles,
-    all-fair sizing obstacles zones (z + 1) (pastRow rings sizes (rowOf rows z) at) (left-next s rows rings sizes coords zone zones z at l) (filled-next s rows rings sizes coords zone zones z at l options shares deepest f),
-  )
+  all-fair sizing obstacles (zone ∷ zones) z at l f =
+      (fair s rows rings sizes coords zone zones z at l options shares deepest f sizing obstacles,
+      all-fair sizing obstacles zones (z + 1) (pastRow rings sizes (rowOf rows z) at) (left-next s rows rings sizes coords zone zones z at l) (filled-next options s rows rings sizes coords shares deepest zone zones z at l f))
