@@ -12,3 +12,4 @@ pub mod Own
 pub mod Read
 pub mod Sound
 pub mod Packing
+pub mod Placements
