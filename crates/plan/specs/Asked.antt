@@ -175,13 +175,27 @@ module _ (s rows rings sizes : List ℕ) (coords : List Float) (zone : Zone) (zo
   module _ (options : GlyphOptions) (shares : List ℕ) (deepest : List Float) (f : Filled options shares deepest (zone ∷ zones) at) where
     shares-fit : at .piece ≤ length shares → at .piece + rowOf rows z .pieces ≤ length shares
     shares-fit h =
-        omega (arith, h, ap length (own-shares options s rows rings sizes coords shares deepest zone zones z at l f), length-quotas zone, own-row s rows rings sizes coords zone zones z at l .pieces,
-        length-take (rowOf rows z .pieces) (drop (at .piece) shares), length-drop (at .piece) shares)
+        omega (
+          arith,
+          h,
+          ap length (own-shares options s rows rings sizes coords shares deepest zone zones z at l f),
+          length-quotas zone,
+          own-row s rows rings sizes coords zone zones z at l .pieces,
+          length-take (rowOf rows z .pieces) (drop (at .piece) shares),
+          length-drop (at .piece) shares,
+        )
 
     deepest-fit : at .piece * 3 ≤ length deepest → (at .piece + rowOf rows z .pieces) * 3 ≤ length deepest
     deepest-fit h =
-        omega (arith, h, ap length (own-deepest options s rows rings sizes coords shares deepest zone zones z at l f), length-threes-of options zone, own-row s rows rings sizes coords zone zones z at l .pieces,
-        length-take (rowOf rows z .pieces * 3) (drop (at .piece * 3) deepest), length-drop (at .piece * 3) deepest)
+        omega (
+          arith,
+          h,
+          ap length (own-deepest options s rows rings sizes coords shares deepest zone zones z at l f),
+          length-threes-of options zone,
+          own-row s rows rings sizes coords zone zones z at l .pieces,
+          length-take (rowOf rows z .pieces * 3) (drop (at .piece * 3) deepest),
+          length-drop (at .piece * 3) deepest,
+        )
 
     packable : at .piece ≤ length shares → at .piece * 3 ≤ length deepest → Packable s rings sizes coords shares deepest (rowOf rows z) at
     packable p q =
@@ -213,11 +227,12 @@ module _ (options : GlyphOptions) (s rows rings sizes : List ℕ) (coords : List
   unfolding EachRow
   all-packable [] z at l f p q = tt
   all-packable (zone ∷ zones) z at l f p q =
-      let past = past-piece rings sizes (rowOf rows z) at in
-      (packable s rows rings sizes coords zone zones z at l options shares deepest f p q,
-      all-packable zones (z + 1) (pastRow rings sizes (rowOf rows z) at) (left-next s rows rings sizes coords zone zones z at l) (filled-next options s rows rings sizes coords shares deepest zone zones z at l f)
-      (rw past (shares-fit s rows rings sizes coords zone zones z at l options shares deepest f p))
-      (rw past (deepest-fit s rows rings sizes coords zone zones z at l options shares deepest f q)))
+      let past = past-piece rings sizes (rowOf rows z) at in (
+        packable s rows rings sizes coords zone zones z at l options shares deepest f p q,
+        all-packable zones (z + 1) (pastRow rings sizes (rowOf rows z) at) (left-next s rows rings sizes coords zone zones z at l) (filled-next options s rows rings sizes coords shares deepest zone zones z at l f)
+            (rw past (shares-fit s rows rings sizes coords zone zones z at l options shares deepest f p))
+            (rw past (deepest-fit s rows rings sizes coords zone zones z at l options shares deepest f q)),
+      )
 
   pub floor-is :
       (zones : List Zone) → Left s rows rings sizes coords zones 0 start → Filled options shares deepest zones start → length zones * 4 ≤ length rows
@@ -229,6 +244,7 @@ module _ (options : GlyphOptions) (s rows rings sizes : List ℕ) (coords : List
       → EachRow rows rings sizes (Fair sizing options obstacles s rings sizes coords shares deepest) (length zones) z at
   unfolding EachRow
   all-fair sizing obstacles [] z at l f = tt
-  all-fair sizing obstacles (zone ∷ zones) z at l f =
-      (fair s rows rings sizes coords zone zones z at l options shares deepest f sizing obstacles,
-      all-fair sizing obstacles zones (z + 1) (pastRow rings sizes (rowOf rows z) at) (left-next s rows rings sizes coords zone zones z at l) (filled-next options s rows rings sizes coords shares deepest zone zones z at l f))
+  all-fair sizing obstacles (zone ∷ zones) z at l f = (
+    fair s rows rings sizes coords zone zones z at l options shares deepest f sizing obstacles,
+    all-fair sizing obstacles zones (z + 1) (pastRow rings sizes (rowOf rows z) at) (left-next s rows rings sizes coords zone zones z at l) (filled-next options s rows rings sizes coords shares deepest zone zones z at l f),
+  )

@@ -12,6 +12,7 @@ pub mod Own
 pub mod Read
 pub mod Sound
 pub mod Packing
+pub mod Placements
 pub mod Made
 pub mod Asked
 pub mod Whole
