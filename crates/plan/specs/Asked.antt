@@ -1,13 +1,13 @@
 -- What the code asks of the slices: the pieces, quotas and deepest points lie within them, and no zone is given more marks than it has.
 -- Rests on the sum of a zone's quotas, and on no packer placing more marks than it is asked for.
-use Prim.Native.Nat.{ℕ, zero, suc, _+_, _*_, _<_, _≤_}
-use mathlib.Core.Path.{_≡_, refl, sym, ap, subst, _∙_}
+use Prim.Native.Nat.{ℕ, _+_, _*_, _≤_}
+use mathlib.Core.Path.{_≡_, refl, sym, ap, _∙_}
 use mathlib.Core.Bool.{Bool, true, false, cond, not, _&&_, _||_}
 use mathlib.Core.List.{List, [], _∷_}
 use native.Mathlib.Omega.{arith}
 use borrow.Author.Tests.{ltb-true}
-use lib.Dec.{T, eqb, ltb, leb}
-use lib.ListN.{length, take, drop, length-take, length-drop}
+use lib.Dec.{eqb, ltb, leb}
+use lib.ListN.{length, drop, length-take, length-drop}
 use lib.Ieee.{Float}
 use Rattle.laws.specs.Sorted.{weigh}
 use Rattle.glyphs.specs.Bounds.{ringBounds}
@@ -44,7 +44,7 @@ use Rattle.discs.specs.Region.{Zone, quotas, packUniformPiece, packLowDiscrepan
 use Rattle.discs.specs.Radius.{contextAt}
 use Rattle.discs.specs.PlaceGlyphs.{leftIn, pack}
 use Rattle.discs.specs.Pieces.{packPieceFrom, packQuota, packPiecesFrom}
-use Rattle.discs.specs.Floor.{rowOf, rowIsLeftIn, pastRow, cut, packHanded, start, EachRow, Stands, Packable, Floor}
+use Rattle.discs.specs.Floor.{rowOf, rowIsLeftIn, pastRow, packHanded, start, EachRow, Packable, Floor}
 use Rattle.claims.specs.Counts.{taken-count, scattered-count, thrown-count}
 use Rattle.claims.specs.HandOut.{assigned-sum}
 use Rattle.claims.specs.HandOut as HandOut
@@ -54,7 +54,7 @@ use Rattle.plan.specs.Walk.{never}
 use Rattle.plan.specs.Rows.{past-piece}
 use Rattle.plan.specs.Placing.{placeFor, Fair}
 use Rattle.plan.specs.Left.{Left, own-row, own-readable, own-left-in, left-next}
-use Rattle.plan.specs.Own.{length-quotas, length-threes-of, threesOf, Filled, ownOf, own-shares, own-deepest, filled-next, handed-own}
+use Rattle.plan.specs.Own.{length-quotas, length-threes-of, Filled, ownOf, own-shares, own-deepest, filled-next, handed-own}
 use Rattle.plan.specs.Sound.{both-true}
 
 -- ---- one piece

@@ -1,8 +1,8 @@
 -- The ceiling and the size, from the zones as they are handed in, are those of the source.
 -- Rests on each zone left in being handed in as its packing needs it, and on the laws of what is handed in.
-use Prim.Native.Nat.{ℕ, suc, _≤_}
-use mathlib.Core.Path.{_≡_, refl, sym, ap, _∙_}
-use mathlib.Core.Bool.{Bool, true, false, cond, _&&_}
+use Prim.Native.Nat.{ℕ, _≤_}
+use mathlib.Core.Path.{_≡_, refl, ap, _∙_}
+use mathlib.Core.Bool.{Bool, true, false, cond}
 use mathlib.Core.List.{List, [], _∷_, map}
 use native.Mathlib.Omega.{arith}
 use lib.ListN.{length}
@@ -18,12 +18,11 @@ use Rattle.discs.specs.declared.options.Radius.the-variants.{Auto, Stated}
 use Rattle.discs.specs.Region.{Zone, quotas, deepestOf}
 use Rattle.discs.specs.Radius.{boundaryGapOf, analyticRHi, feasible}
 use Rattle.discs.specs.PlaceGlyphs.{leftIn, workOf, sizeFor, sizing}
-use Rattle.discs.specs.Pieces.{deepestsOf}
 use Rattle.discs.specs.Searches.{isSearched, searched, searchesIn, hadRoom}
 use Rattle.discs.specs.Floor.{Handed, handedWork, handedRHi, handedFeasible}
 use Rattle.discs.specs.FloorLaws.{OwnPoints, OwnPacking, zonesOf, ceiling-own, size-own, stated-any}
 use Rattle.job.specs.Plan.{room, source, ceilingOf}
-use Rattle.plan.specs.Own.{length-quotas, foundOf, threesOf, ownOf}
+use Rattle.plan.specs.Own.{length-quotas, foundOf, ownOf}
 use Rattle.plan.specs.Read.{left-in-found}
 use Rattle.plan.specs.Sound.{both-true, points-back}
 use Rattle.plan.specs.Packing.{packsAt, all-sound, packing-own}

@@ -12,8 +12,7 @@ use lib.Ieee
 use lib.Ieee.{Float, nan, inf, fin}
 use lib.Ieee.Bits.{is-true}
 use Rattle.laws.specs.Any.{all}
-use Rattle.laws.specs.Truth.{yes}
-use Rattle.float.specs.Ops.{_<ᶠ_, _>ᶠ_, 0ᶠ, ∞}
+use Rattle.float.specs.Ops.{_>ᶠ_, 0ᶠ, ∞}
 use Rattle.float.specs.Order.{abs, max}
 use Rattle.rounding.specs.Signed.{Exact, nat, _≼_, _≺_, _≈_}
 use Rattle.rounding.specs.Value.{Num, val}
@@ -35,7 +34,7 @@ use Rattle.discs.specs.declared.radius.Sizing.{Sizing}
 use Rattle.discs.specs.declared.radius.Sizing.the-variants.{Unplaced, At}
 use Rattle.discs.specs.Region.{Zone}
 use Rattle.discs.specs.Radius.{ifPositive, analyticRHi}
-use Rattle.discs.specs.PlaceGlyphs.{Placed, Placements, leftIn, workOf, sizeFor, packAt, sizing, statedRadius, placeGlyphs}
+use Rattle.discs.specs.PlaceGlyphs.{Placements, leftIn, workOf, sizeFor, packAt, sizing, statedRadius, placeGlyphs}
 use Rattle.discs.specs.Searches.{hadRoom}
 use Rattle.discs.specs.Floor.{Handed, handedWork, start, workIn}
 use Rattle.job.specs.Job.{Job}
