@@ -16,3 +16,4 @@ pub mod Placements
 pub mod Made
 pub mod Asked
 pub mod Whole
+pub mod Called
