@@ -13,6 +13,7 @@ pub mod Read
 pub mod Sound
 pub mod Packing
 pub mod Placements
+pub mod Put
 pub mod Made
 pub mod Asked
 pub mod Whole
