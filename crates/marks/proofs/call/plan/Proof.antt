@@ -1,9 +1,10 @@
 -- `plan` gives the call's answer by its number; the sheet that it gives keeps demand 3.
 -- Rests on what the layer's `plan` ensures, and on the theorem of `claims`.
-use mathlib.Core.Path.{_≡_, sym, _∙_}
+use mathlib.Core.Path.{_≡_, sym, ap, _∙_}
 use borrow.Author.Needs.{needs}
 use Rattle.job.specs.Plan.{planOf}
 use Rattle.claims.specs.Demand.{demand-3}
+use Rattle.plan.specs.declared.answer.Answer.{Answer}
 use Rattle.marks.specs.CallLaws.{planned-sheet, planned-refused}
 use Rattle.marks.proofs.call.plan.Statement.{statement}
 use Rattle.marks.proofs.call.plan.Tie as tie
@@ -25,7 +26,8 @@ returns c =
     let p = c .before .before .before .before .before .before .before .before .plan .ensures in
     let a = c .before .before .before .before .before .before .before .before .before .before .before .before .before .before .before .before .args in
     let plan = planOf (a .job .now) (a .first .now) (a .second .now) (a .sheet .now) in
-    (rw (planned-refused plan (λ e. c .if1 .taken (p .0 .1 ∙ e)), p .0 .1), (p .1 .0, (p .1 .1, (p .1 .2, tt))))
+    let number = ap (λ (x : Answer). x .number) (p .0) in
+    (rw (planned-refused plan (λ e. c .if1 .taken (number ∙ e)), number), (p .1 .0, (p .1 .1, (p .1 .2, tt))))
 
 same-length-4 : tie.Need-same-length-4
 same-length-4 c = search needs
@@ -41,8 +43,11 @@ returns-2 c =
     let p = c .before .before .before .before .before .before .before .before .plan .ensures in
     let a = c .before .before .before .before .before .before .before .before .before .before .before .before .before .before .before .before .args in
     let plan = planOf (a .job .now) (a .first .now) (a .second .now) (a .sheet .now) in
-    let e : plan .number ≡ 0 = sym (p .0 .1) ∙ c .if1 .left in
-    (rw (planned-sheet plan e, p .0 .0, p .0 .2, p .0 .3), (p .1 .0, (p .1 .1, (p .1 .2, rw (p .1 .2) (demand-3 (a .job .now) (a .first .now) (a .second .now) (a .sheet .now) e)))))
+    let e : plan .number ≡ 0 = sym (ap (λ (x : Answer). x .number) (p .0)) ∙ c .if1 .left in
+    let long = ap (λ (x : Answer). x .length) (p .0) in
+    let free = ap (λ (x : Answer). x .«free_trials») (p .0) in
+    let walled = ap (λ (x : Answer). x .«obstacle_trials») (p .0) in
+    (rw (planned-sheet plan e, long, free, walled), (p .1 .0, (p .1 .1, (p .1 .2, rw (p .1 .2) (demand-3 (a .job .now) (a .first .now) (a .second .now) (a .sheet .now) e)))))
 
 pub plan-spec : {M : Type 1} → statement M
 plan-spec =
