@@ -18,3 +18,4 @@ pub mod Made
 pub mod Asked
 pub mod Whole
 pub mod Called
+pub mod Zoned
