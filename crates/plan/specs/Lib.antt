@@ -18,3 +18,5 @@ pub mod Made
 pub mod Asked
 pub mod Whole
 pub mod Called
+pub mod Later
+pub mod CallLaws
