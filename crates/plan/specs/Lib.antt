@@ -19,3 +19,5 @@ pub mod Asked
 pub mod Whole
 pub mod Called
 pub mod Zoned
+pub mod Later
+pub mod CallLaws
