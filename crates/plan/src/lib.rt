@@ -6,6 +6,7 @@ ghost use Rattle.job.specs.Head.{lentFault};
 ghost use Rattle.job.specs.Plan.{planOf};
 ghost use Rattle.plan.specs.Called.{itemsNumber, Answered, answerOf};
 ghost use Rattle.job.specs.Job.{jobOf};
+
 pub mod answer;
 pub mod clear;
 pub mod floor;
