@@ -6,7 +6,7 @@ use mathlib.Core.Bool.{Bool, true, false, cond}
 use mathlib.Core.List.{List, [], _++_}
 use native.Mathlib.Omega.{arith}
 use lib.ListN.{length, take, drop, replicate, length-replicate}
-use lib.Seq.{take-at, drop-at, length-front, length-take-le}
+use lib.Seq.{take-at, drop-at, length-take-le}
 use lib.Dec.{eqb}
 use lib.Ieee.{Float}
 use borrow.Author.Tests.{ne-eqb, eqb-true, eqb-false, leb-true, lt-leb, le-leb}
@@ -151,19 +151,18 @@ items-refused s number r sheet e a =
 
 -- ---- the first n of a slice, lent and given back
 
-module _ {A : Type 0} (n : ℕ) (l back : List A) (long : n ≤ length l) (same : length back ≡ length (take n l)) where
-  pub front-long : n ≤ length (back ++ drop n l)
-  front-long = omega (arith, long, length-front l back n same)
+pub still-long : (n was is : ℕ) → n ≤ was → is ≡ was → n ≤ is
+still-long n was is long same = omega arith
 
-  pub front-count : length (take n (back ++ drop n l)) ≡ n
-  front-count = length-take-le n (back ++ drop n l) front-long
+pub front-count : {A : Type 0} (n : ℕ) (back l : List A) → n ≤ length l → length (back ++ drop n l) ≡ length l → length (take n (back ++ drop n l)) ≡ n
+front-count n back l long same = length-take-le n (back ++ drop n l) (still-long n (length l) (length (back ++ drop n l)) long same)
 
 -- lent a second time, and filled with z
 pub cleared-at :
     {A : Type 0} (n : ℕ) (z : A) (filled back l : List A) → filled ≡ replicate n z → n ≤ length l → length back ≡ length (take n l)
     → filled ++ drop n (back ++ drop n l) ≡ written (replicate n z) l
 unfolding written
-cleared-at n z filled back l e long same =
+cleared-at {A = A} n z filled back l e long same =
     ap (λ (xs : List A). xs ++ drop n (back ++ drop n l)) e
     ∙ rw (drop-at back (drop n l) n (same ∙ length-take-le n l long), length-replicate n z)
 

@@ -4,7 +4,6 @@ use Prim.Native.Nat.{ℕ, zero, suc, _+_, _*_}
 use mathlib.Core.Path.{_≡_, refl}
 use mathlib.Core.Bool.{Bool, true, false, _||_}
 use mathlib.Core.List.{List}
-use lib.ListN.{length}
 use lib.Dec.{eqb}
 use Rattle.format.specs.Rows.{_unless_, _orElse_, faults}
 use Rattle.format.specs.Numbers.{u8, u16, item, coordIn, nextCoord}
@@ -14,7 +13,7 @@ use Rattle.discs.specs.declared.ceiling.Chosen.the-variants.{None, Some}
 use Rattle.job.specs.Head.{lentFault, workFault, numberAfter, choicesFault, measuresFault, headFault, obstaclesAt, obstaclesFault}
 use Rattle.job.specs.Zones.{Place, nextByte, letterFault, keyFault, countsFault, countAt, piecesAt, openingFault, zoneFault, zoneNext}
 use Rattle.job.specs.Job.{Job, jobOf, zonesAt, firstZone, zonesFault, itemsFault, sheetFault}
-use Rattle.job.specs.Plan.{searchFault, lowFault, ceilingOf, ceilingFault}
+use Rattle.job.specs.Plan.{searchFault, lowFault, ceilingFault}
 use Rattle.plan.specs.Called.{itemsNumber}
 
 -- the number is 1 or 2

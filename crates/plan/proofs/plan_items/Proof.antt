@@ -1,6 +1,6 @@
 -- `plan_items` refuses by rows 3 to 14, or gives the answer of the zones.
 -- Rests on what its calls ensure, and on the laws of the call.
-use mathlib.Core.Path.{_≡_, sym, _∙_}
+use mathlib.Core.Path.{sym, _∙_}
 use Prim.Native.Nat.{_*_, _≤_}
 use native.Mathlib.Omega.{arith}
 use borrow.Author.Needs.{needs}
