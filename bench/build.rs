@@ -6,7 +6,6 @@ fn main() {
     let root = env::var("CARGO_MANIFEST_DIR").unwrap();
     let libraries = Path::new(&root).join("../target/staticlib");
     println!("cargo:rustc-link-search=native={}", libraries.display());
-    println!("cargo:rustc-link-arg-bin=jobs=-l:libmarks.a");
     println!("cargo:rustc-link-arg-bin=leaves=-l:libmarks.a");
     println!("cargo:rustc-link-arg-bin=regions=-l:libprobes.a");
     println!("cargo:rustc-link-arg-bin=packers=-l:libprobes.a");

@@ -5,20 +5,6 @@ use oracle::{job, judge, sheet};
 use std::hint::black_box;
 use std::time::{Duration, Instant};
 
-unsafe extern "C" {
-    fn marks_plan(
-        job: *const u8,
-        job_length: usize,
-        first: *mut f64,
-        first_length: usize,
-        second: *mut f64,
-        second_length: usize,
-        sheet: *mut u8,
-        sheet_length: usize,
-        answer: *mut u32,
-    ) -> u32;
-}
-
 struct Lent {
     first: Vec<f64>,
     second: Vec<f64>,
@@ -26,23 +12,12 @@ struct Lent {
 }
 
 impl Lent {
-    /// The number of the refusal, or the sheet's length.
-    fn plan(&mut self, job: &[u8]) -> Result<usize, u32> {
-        let mut answer = [0; 3];
-        let length = unsafe {
-            marks_plan(
-                job.as_ptr(),
-                job.len(),
-                self.first.as_mut_ptr(),
-                self.first.len(),
-                self.second.as_mut_ptr(),
-                self.second.len(),
-                self.sheet.as_mut_ptr(),
-                self.sheet.len(),
-                answer.as_mut_ptr(),
-            )
-        };
-        if answer[0] == 0 { Ok(length as usize) } else { Err(answer[0]) }
+    /// The sheet, or the number of the refusal.
+    fn plan(&mut self, job: &[u8]) -> Result<&[u8], u32> {
+        match marks::plan_into(job, &mut self.first, &mut self.second, &mut self.sheet) {
+            Ok(given) => Ok(given.sheet),
+            Err(refusal) => Err(refusal.number()),
+        }
     }
 }
 
@@ -64,17 +39,18 @@ fn rust(bytes: &[u8]) -> Vec<u8> {
 }
 
 fn measure(name: &str, bytes: &[u8], lent: &mut Lent) -> Option<f64> {
-    let length = match lent.plan(bytes) {
-        Ok(length) => length,
+    let radius = match lent.plan(bytes) {
+        Ok(sheet) => {
+            assert!(sheet == rust(bytes), "{name}: another sheet");
+            f64::from_be_bytes(sheet[5..13].try_into().unwrap())
+        }
         Err(number) => {
             println!("{name:<56} refused {number}");
             return None;
         }
     };
-    assert!(lent.sheet[..length] == rust(bytes), "{name}: another sheet");
-    let radius = f64::from_be_bytes(lent.sheet[5..13].try_into().unwrap());
     let ours = best(|| {
-        black_box(lent.plan(black_box(bytes))).unwrap();
+        black_box(lent.plan(black_box(bytes)).unwrap());
     });
     let other = best(|| {
         black_box(rust(black_box(bytes)));
@@ -84,8 +60,11 @@ fn measure(name: &str, bytes: &[u8], lent: &mut Lent) -> Option<f64> {
 }
 
 fn main() {
-    let mut lent =
-        Lent { first: vec![0.0; 8_000], second: vec![0.0; 8_000], sheet: vec![0; 40_000] };
+    let mut lent = Lent {
+        first: vec![0.0; marks::WORK_FLOATS],
+        second: vec![0.0; marks::WORK_FLOATS],
+        sheet: vec![0; marks::LONGEST_SHEET],
+    };
     let mut floors: Vec<(String, Vec<u8>)> =
         floors::all().into_iter().map(|(name, job)| (name.into(), job)).collect();
     for path in std::env::args().skip(1) {
