@@ -13,8 +13,11 @@ fn number(unit: f64) -> [u8; 4] {
     ((unit * 1024.0).round() as i32).to_be_bytes()
 }
 
-/// A job with an automatic radius, BestEffort, gap 1/8 and boundary gap 1/4.
-fn job(pillars: &[[f64; 4]], zones: &[Zone]) -> Vec<u8> {
+/// Where a job has its precision, in 1/1024.
+pub const PRECISION: std::ops::Range<usize> = 21..25;
+
+/// A job with an automatic radius, BestEffort, gap 1/8, boundary gap 1/4 and precision 1/4.
+pub fn job(pillars: &[[f64; 4]], zones: &[Zone]) -> Vec<u8> {
     let mut b = vec![0, 0, 0, 0, 1, 0, 0, 0, 0, 0, 0, 0];
     b.extend(128u32.to_be_bytes());
     b.push(1);
@@ -43,11 +46,11 @@ fn job(pillars: &[[f64; 4]], zones: &[Zone]) -> Vec<u8> {
     b
 }
 
-fn rectangle(x: f64, y: f64, width: f64, height: f64) -> Ring {
+pub fn rectangle(x: f64, y: f64, width: f64, height: f64) -> Ring {
     vec![[x, y], [x + width, y], [x + width, y + height], [x, y + height]]
 }
 
-fn round(n: usize, radius: f64, wave: f64) -> Ring {
+pub fn round(n: usize, radius: f64, wave: f64) -> Ring {
     (0..n)
         .map(|k| {
             let a = TAU * k as f64 / n as f64;
@@ -58,12 +61,12 @@ fn round(n: usize, radius: f64, wave: f64) -> Ring {
 }
 
 /// One zone of one piece.
-fn one(key: &str, count: u16, rings: Vec<Ring>) -> Vec<Zone> {
+pub fn one(key: &str, count: u16, rings: Vec<Ring>) -> Vec<Zone> {
     vec![Zone { key: key.into(), count, pieces: vec![rings] }]
 }
 
 /// Pillars of side 1 in a grid over a rectangle from (0, 0).
-fn pillars(columns: usize, rows: usize, width: f64, height: f64) -> Vec<[f64; 4]> {
+pub fn pillars(columns: usize, rows: usize, width: f64, height: f64) -> Vec<[f64; 4]> {
     (0..columns * rows)
         .map(|k| {
             let (i, j) = ((k % columns) as f64 + 0.5, (k / columns) as f64 + 0.5);
@@ -73,7 +76,7 @@ fn pillars(columns: usize, rows: usize, width: f64, height: f64) -> Vec<[f64; 4]
 }
 
 /// A comb of so many teeth: four vertices each.
-fn comb(teeth: usize) -> Ring {
+pub fn comb(teeth: usize) -> Ring {
     let mut ring: Ring = (0..teeth)
         .flat_map(|k| {
             let x = 4.0 * k as f64;
@@ -107,6 +110,12 @@ pub fn all() -> Vec<(&'static str, Vec<u8>)> {
             "64 pillars, 500 marks",
             job(&pillars(8, 8, 80.0, 60.0), &one("floor", 500, vec![rectangle(0.0, 0.0, 80.0, 60.0)])),
         ),
-        ("comb, 251 edges, 300 marks", job(&[], &one("comb", 300, vec![comb(62)]))),
+        ("comb, 251 edges, 300 marks", coarse(job(&[], &one("comb", 300, vec![comb(62)])))),
     ]
+}
+
+/// The job at precision 1: so many equal teeth have more cells waiting than may wait, at a finer one.
+fn coarse(mut job: Vec<u8>) -> Vec<u8> {
+    job[PRECISION].copy_from_slice(&1024u32.to_be_bytes());
+    job
 }

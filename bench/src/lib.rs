@@ -1,10 +1,16 @@
-//! What the programs share: random bits, a ring, and the time of a call.
+//! What the programs share: random bits, a ring, the lent slices of a whole job, and the time of a call.
 pub mod floors;
+mod lent;
 pub mod packing;
+
+pub use lent::Lent;
 
 use std::f64::consts::TAU;
 use std::hint::black_box;
-use std::time::Instant;
+use std::time::{Duration, Instant};
+
+/// The arrangements, in the order of the job's byte.
+pub const ARRANGEMENTS: [&str; 4] = ["Uniform", "Rectangular", "LowDiscrepancy", "Random"];
 
 pub struct Bits(pub u64);
 
@@ -41,6 +47,17 @@ pub fn time<T: Copy, R>(values: &[T], f: impl Fn(T) -> R) -> f64 {
             black_box(f(black_box(x)));
         }
         best = best.min(start.elapsed().as_secs_f64() * 1e9 / values.len() as f64);
+    }
+    best
+}
+
+/// Nanoseconds a call, the best of several within a second or so.
+pub fn best(mut call: impl FnMut()) -> f64 {
+    let (mut best, start) = (f64::INFINITY, Instant::now());
+    while best == f64::INFINITY || start.elapsed() < Duration::from_millis(600) {
+        let turn = Instant::now();
+        call();
+        best = best.min(turn.elapsed().as_secs_f64() * 1e9);
     }
     best
 }
