@@ -18,7 +18,7 @@ use Rattle.job.specs.Job.{zonesRoom, sheetRoom, sheetFault}
 use Rattle.discs.specs.Searches.{startsDeepest, isSearched, searched, searchesIn, hadRoom}
 use Rattle.job.specs.Plan.{searchFault, lowFault, ceilingOf, ceilingFault, numberOf, given, planOf}
 use Rattle.claims.specs.Claim.{Inset, Away, FarApart, PieceKept, ZoneKept, Zones, SheetKept}
-use Rattle.claims.specs.Demand.{demand-3}
+use Rattle.claims.specs.EverySheet.{every-sheet-kept}
 use Rattle.claims.specs.Example.{job, lent, read, options, square, said, says, corner, pillar, ctx, one, other, shared, kept-near, placed, pillars, found, inset-is, spacing-is}
 
 -- ---- it is accepted
@@ -76,4 +76,4 @@ says-so bytes k =
 
 -- and so it does of the sheet that the call gives
 of-its-sheet : (first second : List Float) (sheet : List ℕ) → 8000 ≤ length first → 8000 ≤ length second → 53 ≤ length sheet → Said
-of-its-sheet first second sheet f g h = says-so (planOf job first second sheet .sheet) (demand-3 job first second sheet (accepted first second sheet f g h))
+of-its-sheet first second sheet f g h = says-so (planOf job first second sheet .sheet) (every-sheet-kept job first second sheet (accepted first second sheet f g h))

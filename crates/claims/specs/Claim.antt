@@ -1,4 +1,4 @@
--- Demand 3 in its own words: what is claimed of the spots of a piece, of a zone left in, and of a job's whole sheet. Definitions only.
+-- What is claimed of the spots of a piece, of a zone left in, and of a job's whole sheet. Definitions only.
 -- An exact number is a whole number of 2 ^ -1074 (`mag`), so that no step of a comparison rounds.
 use mathlib.Core.Path.{_≡_}
 use mathlib.Core.List.{List, [], _∷_, map, flatten}

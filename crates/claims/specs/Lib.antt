@@ -14,8 +14,8 @@ pub mod Crossing
 pub mod Darts
 pub mod Deep
 pub mod Deepest
-pub mod Demand
 pub mod Entries
+pub mod EverySheet
 pub mod Example
 pub mod Fair
 pub mod FairExamples

@@ -22,7 +22,7 @@ abbrev pub planNumbers : Planned → List ℕ
 planNumbers (Sheet length free-trials obstacle-trials) = 0 ∷ free-trials ∷ obstacle-trials ∷ []
 planNumbers (Refused number) = number ∷ 0 ∷ 0 ∷ []
 
--- demand 3: a job's bytes, and a buffer that begins with its sheet
+-- what is claimed of a sheet: a job's bytes, and a buffer that begins with its sheet
 abbrev pub Kept : Planned → List ℕ → List ℕ → Type 0
 Kept (Sheet length free-trials obstacle-trials) job sheet = SheetKept job sheet
 Kept (Refused number) job sheet = Unit {0}

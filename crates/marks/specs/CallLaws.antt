@@ -1,5 +1,5 @@
 -- The call's answer by its number, and how large its numbers are.
--- Rests on the laws of the trials and of the sheet's length, and for the latter on demand 3.
+-- Rests on the laws of the trials and of the sheet's length, and for the latter on that of every sheet.
 use mathlib.Core.Path.{_≡_, refl}
 use mathlib.Core.Bool.{Bool, true, false, cond}
 use mathlib.Core.List.{List}
@@ -15,7 +15,7 @@ use Rattle.job.specs.Job.{jobOf, itemsFault}
 use Rattle.job.specs.Known.{job-known}
 use Rattle.job.specs.Plan.{numberOf, placementsOf, Plan, given, refused, planOf}
 use Rattle.claims.specs.Claim.{SheetKept}
-use Rattle.claims.specs.Demand.{demand-3}
+use Rattle.claims.specs.EverySheet.{every-sheet-kept}
 use Rattle.marks.specs.Call.{planned}
 use Rattle.marks.specs.Room.{sheet-short, room-small}
 use Rattle.marks.specs.Trials.{few-trials}
@@ -42,7 +42,7 @@ faultless s first second sheet e =
 
 plan-small : (s : List ℕ) (first second : List Float) (sheet : List ℕ) → Small (planned (planOf s first second sheet))
 unfolding planned planOf given refused
-plan-small s first second sheet = go (eqb n 0) refl (demand-3 s first second sheet)
+plan-small s first second sheet = go (eqb n 0) refl (every-sheet-kept s first second sheet)
   where
     n : ℕ
     n = numberOf s first second sheet

@@ -1,9 +1,9 @@
--- `plan` gives the call's answer by its number; the sheet that it gives keeps demand 3.
+-- `plan` gives the call's answer by its number; the sheet that it gives keeps what is claimed of every sheet.
 -- Rests on what the layer's `plan` ensures, and on the theorem of `claims`.
 use mathlib.Core.Path.{_≡_, sym, ap, _∙_}
 use borrow.Author.Needs.{needs}
 use Rattle.job.specs.Plan.{planOf}
-use Rattle.claims.specs.Demand.{demand-3}
+use Rattle.claims.specs.EverySheet.{every-sheet-kept}
 use Rattle.plan.specs.declared.answer.Answer.{Answer}
 use Rattle.marks.specs.CallLaws.{planned-sheet, planned-refused}
 use Rattle.marks.proofs.call.plan.Statement.{statement}
@@ -47,7 +47,7 @@ returns-2 c =
     let long = ap (λ (x : Answer). x .length) (p .0) in
     let free = ap (λ (x : Answer). x .«free_trials») (p .0) in
     let walled = ap (λ (x : Answer). x .«obstacle_trials») (p .0) in
-    (rw (planned-sheet plan e, long, free, walled), (p .1 .0, (p .1 .1, (p .1 .2, rw (p .1 .2) (demand-3 (a .job .now) (a .first .now) (a .second .now) (a .sheet .now) e)))))
+    (rw (planned-sheet plan e, long, free, walled), (p .1 .0, (p .1 .1, (p .1 .2, rw (p .1 .2) (every-sheet-kept (a .job .now) (a .first .now) (a .second .now) (a .sheet .now) e)))))
 
 pub plan-spec : {M : Type 1} → statement M
 plan-spec =

@@ -1,4 +1,4 @@
--- DEMAND 3: of every job that is not refused, the sheet keeps what is claimed of it: clearances, exact distances, pillars under Strict, quotas.
+-- Of every job that is not refused, the sheet keeps what is claimed of it: clearances, exact distances, pillars under Strict, quotas.
 -- Rests on the laws of its zones and of the radius, and on the sheet's bytes being read back.
 use mathlib.Core.Path.{_≡_, refl, sym, ap, subst, _∙_}
 use mathlib.Core.Bool.{Bool, true, false, not, cond, _&&_}
@@ -127,9 +127,9 @@ kept s i c ys =
     record { left-in = h .same; radius = rw (sheet-back (sheetFor p) ys w); zones = rw (sheet-back (sheetFor p) ys w) (zones-kept (job .options) (pillarsOf job) (p .radius) (p .zones) inside (h .own)) }
 
 -- THE CLAIM: whatever bytes and slices are lent, where the call gives a sheet
-pub demand-3 : (s : List ℕ) (first second : List Float) (sheet : List ℕ) → planOf s first second sheet .number ≡ 0 → SheetKept s (planOf s first second sheet .sheet)
+pub every-sheet-kept : (s : List ℕ) (first second : List Float) (sheet : List ℕ) → planOf s first second sheet .number ≡ 0 → SheetKept s (planOf s first second sheet .sheet)
 unfolding planOf given refused written
-demand-3 s first second sheet e = go (eqb n 0) refl e
+every-sheet-kept s first second sheet e = go (eqb n 0) refl e
   where
     n : ℕ
     n = numberOf s first second sheet
