@@ -1,4 +1,5 @@
 pub mod Region
+pub mod Searches
 pub mod Pieces
 pub mod PieceLaws
 pub mod Joined
@@ -6,6 +7,4 @@ pub mod Radius
 pub mod PlaceGlyphs
 pub mod Floor
 pub mod Walk
-pub mod FlatPieces
 pub mod FloorLaws
-pub mod Searches

@@ -1,4 +1,4 @@
--- A zone packed from deepest points that are handed in is the definition's zone, where those that are needed are the pieces' own; and what each piece has.
+-- A zone packed from deepest points that are handed in is the definition's zone, where those that a packer starts from are the pieces' own; and what each piece has.
 -- Rests on the definitions alone.
 use Prim.Native.Nat.{ℕ, zero, suc, _<_, _≤_}
 use mathlib.Core.Path.{_≡_, refl, sym, ap, _∙_}
@@ -30,27 +30,17 @@ use Rattle.scatter.specs.Random.{Thrown}
 use Rattle.scatter.specs.declared.low.Anchor.{Anchor}
 use Rattle.scatter.specs.declared.low.Anchor.the-variants.{Nowhere}
 use Rattle.discs.specs.Region.{Zone, quotas, deepestOf, packLowDiscrepancyPiece, packPiece, packPieces, packRegion}
+use Rattle.discs.specs.Searches.{hasBounds, startsDeepest}
 use Rattle.discs.specs.Pieces.{packPieceFrom, packQuota, packPiecesFrom}
 use Rattle.discs.specs.declared.options.GlyphOptions.{GlyphOptions}
 
-abbrev pub hasBox : Bounds → Bool
-hasBox bounds.Nothing = false
-hasBox (Box min-x max-x min-y max-y) = true
-
--- whether a piece's deepest point is looked at
-unfoldable pub needed : GlyphArrangement → Piece → ℕ → Bool
-needed Uniform piece quota = ltb 0 quota
-needed Rectangular piece quota = ltb 0 quota
-needed LowDiscrepancy piece quota = eqb quota 1 && hasBox (ringBounds (outer piece))
-needed Random piece quota = false
-
--- each deepest point that is needed is the piece's own
+-- each deepest point that a packer starts from is the piece's own
 abbrev pub Own : ℕ → GlyphOptions → List Piece → List Deepest → List ℕ → Type 0
 Own room options [] deepests quotas = Unit {0}
 Own room options (piece ∷ pieces) deepests [] = Unit {0}
 Own room options (piece ∷ pieces) [] (quota ∷ quotas) = ⊥
 Own room options (piece ∷ pieces) (found ∷ deepests) (quota ∷ quotas) =
-    (needed (options .arrangement) piece quota ≡ true → found ≡ deepestOf room options piece) × Own room options pieces deepests quotas
+    (startsDeepest (options .arrangement) piece quota ≡ true → found ≡ deepestOf room options piece) × Own room options pieces deepests quotas
 
 -- ---- a sequence of low discrepancy
 
@@ -79,8 +69,9 @@ module _ (piece : Piece) (quota : ℕ) (ctx : PackCtx) (obstacles : List Rectang
   several e (Found x y clearance) = rw e
 
   low-same :
-      (found other : Deepest) (lone : Bool) (box : Bounds) → eqb quota 1 ≡ lone → ringBounds (outer piece) ≡ box → ((lone && hasBox box) ≡ true → found ≡ other)
+      (found other : Deepest) (lone : Bool) (box : Bounds) → eqb quota 1 ≡ lone → ringBounds (outer piece) ≡ box → ((lone && hasBounds box) ≡ true → found ≡ other)
       → packLowDiscrepancyPiece found piece quota ctx obstacles ≡ packLowDiscrepancyPiece other piece quota ctx obstacles
+  unfolding hasBounds
   low-same found other true (Box min-x max-x min-y max-y) e b h = rw (h refl)
   low-same found other true bounds.Nothing e b h = scattered found ∙ unbounded b (first found) (first other) ∙ sym (scattered other)
   low-same found other false box e b h =
@@ -95,9 +86,9 @@ some-mark (suc n) e = lt-ltb 0 (suc n) (omega arith)
 module _ (room : ℕ) (numbers : Spreading) (options : GlyphOptions) (ctx : PackCtx) (obstacles : List Rectangle) where
   piece-own :
       (arrangement : GlyphArrangement) (found : Deepest) (piece : Piece) (quota : ℕ) (rng : Stream) → eqb quota 0 ≡ false
-      → (needed arrangement piece quota ≡ true → found ≡ deepestOf room options piece)
+      → (startsDeepest arrangement piece quota ≡ true → found ≡ deepestOf room options piece)
       → packPieceFrom numbers options arrangement ctx obstacles found piece quota rng ≡ packPiece room numbers options arrangement ctx obstacles piece quota rng
-  unfolding needed packPieceFrom packPiece
+  unfolding startsDeepest packPieceFrom packPiece
   piece-own Uniform found piece quota rng e h = rw (h (some-mark quota e))
   piece-own Rectangular found piece quota rng e h = rw (h (some-mark quota e))
   piece-own LowDiscrepancy found piece quota rng e h =
@@ -107,7 +98,7 @@ module _ (room : ℕ) (numbers : Spreading) (options : GlyphOptions) (ctx : Pack
   -- the first piece, where the later ones are known
   pieces-more :
       (piece : Piece) (pieces : List Piece) (found : Deepest) (deepests : List Deepest) (quota : ℕ) (quotas : List ℕ) (rng : Stream)
-      → (needed (options .arrangement) piece quota ≡ true → found ≡ deepestOf room options piece)
+      → (startsDeepest (options .arrangement) piece quota ≡ true → found ≡ deepestOf room options piece)
       → ((next : Stream) → packPiecesFrom numbers options ctx obstacles pieces deepests quotas next ≡ packPieces room numbers options ctx obstacles pieces quotas next)
       → packPiecesFrom numbers options ctx obstacles (piece ∷ pieces) (found ∷ deepests) (quota ∷ quotas) rng
       ≡ packPieces room numbers options ctx obstacles (piece ∷ pieces) (quota ∷ quotas) rng

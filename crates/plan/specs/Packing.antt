@@ -2,58 +2,42 @@
 -- Rests on a deepest point coming back from its three floats.
 use Prim.Native.Nat.{ℕ}
 use mathlib.Core.Path.{_≡_, refl, sym, ap, _∙_}
-use mathlib.Core.Bool.{Bool, true, false, cond, _&&_}
+use mathlib.Core.Bool.{Bool, true, cond}
 use mathlib.Core.List.{List, [], _∷_, map}
 use native.Mathlib.Omega.{arith}
 use lib.ListN.{length}
 use lib.Ieee.{Float}
 use Rattle.laws.specs.Any.{all}
 use Rattle.float.specs.Ops.{_>ᶠ_, 0ᶠ}
-use Rattle.glyphs.specs.Bounds.{ringBounds}
-use Rattle.glyphs.specs.declared.bounds.Bounds.{Bounds}
-use Rattle.glyphs.specs.declared.bounds.Bounds.the-variants.{Box, Nothing as Unbounded}
 use Rattle.glyphs.specs.declared.options.GlyphArrangement.{GlyphArrangement}
-use Rattle.glyphs.specs.declared.options.GlyphArrangement.the-variants.{Uniform, Rectangular, LowDiscrepancy, Random}
-use Rattle.regions.specs.Ring.{Piece, outer}
+use Rattle.regions.specs.Ring.{Piece}
 use Rattle.deepest.specs.Deepest.{deeperOf, poiWithHoles}
 use Rattle.deepest.specs.declared.search.Deepest.the-variants.{Nothing}
 use Rattle.discs.specs.declared.options.GlyphOptions.{GlyphOptions}
 use Rattle.discs.specs.declared.options.Radius.{Radius}
 use Rattle.discs.specs.declared.options.Radius.the-variants.{Auto, Stated}
 use Rattle.discs.specs.Region.{Zone, quotas, deepestOf}
-use Rattle.discs.specs.PieceLaws.{hasBox, needed, Own}
+use Rattle.discs.specs.PieceLaws.{Own}
 use Rattle.discs.specs.PlaceGlyphs.{leftIn}
-use Rattle.discs.specs.Searches.{hasBounds, startsDeepest, isSearched, searched, searchesIn, hadRoom}
+use Rattle.discs.specs.Searches.{startsDeepest, isSearched, searched, searchesIn, hadRoom}
 use Rattle.discs.specs.FloorLaws.{OwnPacking}
 use Rattle.plan.specs.Found.{foundFor, foundIn}
 use Rattle.plan.specs.Own.{foundOf, ownOf}
 use Rattle.plan.specs.Read.{left-in-found}
 use Rattle.plan.specs.Sound.{sound, Sound, sound-nothing, sound-cond, point-sound, both-true, points-back}
 
-bounds-same : (b : Bounds) → hasBounds b ≡ hasBox b
-unfolding hasBounds
-bounds-same Unbounded = refl
-bounds-same (Box min-x max-x min-y max-y) = refl
-
-starts-needed : (arrangement : GlyphArrangement) (piece : Piece) (quota : ℕ) → startsDeepest arrangement piece quota ≡ needed arrangement piece quota
-unfolding startsDeepest needed
-starts-needed Uniform piece quota = refl
-starts-needed Rectangular piece quota = refl
-starts-needed LowDiscrepancy piece quota = rw (bounds-same (ringBounds (outer piece)))
-starts-needed Random piece quota = refl
-
 -- a radius that is packed at: an automatic one, or one above 0
 unfoldable pub packsAt : Radius → Bool
 packsAt Auto = true
 packsAt (Stated r) = r >ᶠ 0ᶠ
 
-is-searched : (radius : Radius) (arrangement : GlyphArrangement) (piece : Piece) (quota : ℕ) → packsAt radius ≡ true → needed arrangement piece quota ≡ true → isSearched radius arrangement piece quota ≡ true
+is-searched : (radius : Radius) (arrangement : GlyphArrangement) (piece : Piece) (quota : ℕ) → packsAt radius ≡ true → startsDeepest arrangement piece quota ≡ true → isSearched radius arrangement piece quota ≡ true
 unfolding packsAt isSearched
 is-searched Auto arrangement piece quota p n = refl
-is-searched (Stated r) arrangement piece quota p n = rw (p, starts-needed arrangement piece quota, n)
+is-searched (Stated r) arrangement piece quota p n = rw (p, n)
 
 module _ (options : GlyphOptions) where
-  searched-own : (piece : Piece) (quota : ℕ) → packsAt (options .radius) ≡ true → needed (options .arrangement) piece quota ≡ true → searched 1600 options piece quota ≡ deepestOf 1600 options piece
+  searched-own : (piece : Piece) (quota : ℕ) → packsAt (options .radius) ≡ true → startsDeepest (options .arrangement) piece quota ≡ true → searched 1600 options piece quota ≡ deepestOf 1600 options piece
   unfolding searched
   searched-own piece quota p n = rw (is-searched (options .radius) (options .arrangement) piece quota p n)
 
