@@ -29,10 +29,12 @@ none-yet base l = record { weight = λ j h. absurd (omega arith) }
 
 pub one-more : (base j : ℕ) (l : List Float) (w : Float) → j < length l → w ≡ weightAt base j → Upto base j l → Upto base (j + 1) (set l j w)
 one-more base j l w h e u =
-    record { weight = λ (i : ℕ) (k : i < j + 1). elim (eq-or-lt-of-le (at-most i k)) [
-      | inl f ↦ rw f (getD-set-same l j w nan h ∙ e)
-      | inr g ↦ getD-set-other l j i w nan (λ f. omega arith) ∙ u .weight i g
-    ] }
+    record {
+      weight = λ (i : ℕ) (k : i < j + 1). elim (eq-or-lt-of-le (at-most i k)) [
+        | inl f ↦ rw f (getD-set-same l j w nan h ∙ e)
+        | inr g ↦ getD-set-other l j i w nan (λ f. omega arith) ∙ u .weight i g
+      ];
+    }
   where
     at-most : (i : ℕ) → i < j + 1 → i ≤ j
     at-most i k = omega arith
