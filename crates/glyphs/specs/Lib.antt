@@ -1,6 +1,7 @@
 pub mod Apportion
 pub mod Bounds
 pub mod Halton
+pub mod Digits
 pub mod Hash
 pub mod Points
 pub mod Quotas

@@ -19,6 +19,7 @@ use Rattle.glyphs.specs.declared.bounds.Extents.{Extents}
 use Rattle.glyphs.specs.declared.rect.Point.{Point}
 use Rattle.glyphs.specs.declared.rect.Rectangle.{Rectangle}
 use Rattle.glyphs.specs.Bounds.{ringBounds}
+use Rattle.glyphs.specs.Digits.{Weights}
 use Rattle.glyphs.specs.Rect.{clearOfObstacles, obstaclesNear}
 use Rattle.regions.specs.Ring.{Piece, outer}
 use Rattle.regions.specs.Clearance.{signedClearance}
@@ -31,6 +32,10 @@ use Rattle.scatter.specs.Placed.{placedIf}
 use Rattle.scatter.specs.declared.cells.Cells.{Cells}
 use Rattle.scatter.specs.declared.low.Anchor.{Anchor}
 use Rattle.scatter.specs.declared.low.Anchor.the-variants.{Nowhere, At}
+
+-- the weights of the sequence's bases
+abbrev pub Inverses : List Float → List Float → Type 0
+Inverses halves thirds = (64 ≤ length halves) × Weights 2 halves × (64 ≤ length thirds) × Weights 3 thirds
 
 -- what admits a candidate, by what the code reads
 unfoldable pub admitsIn : Piece → Float → List Rectangle → Cells → Bool → List Point → Point → Bool

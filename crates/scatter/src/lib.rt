@@ -2,3 +2,4 @@
 pub mod cells;
 pub mod low;
 pub mod random;
+pub mod sequence;

@@ -9,14 +9,16 @@ ghost use Rattle.glyphs.specs.Spots.{flat, spotsOf, putSpot};
 ghost use Rattle.regions.specs.Margin.{marginOf};
 ghost use Rattle.regions.specs.Ring.{sum, pieceOf};
 ghost use Rattle.scatter.specs.LowDiscrepancy.{budget, firstOr, haltonPoint, passes, packScatter, loneAnchor};
-ghost use Rattle.scatter.specs.Passes.{admitsIn, passIn};
+ghost use Rattle.scatter.specs.Passes.{Inverses, admitsIn, passIn};
 use crate::cells::Cells;
 use crate::cells::home;
 use crate::cells::is_hinted;
 use crate::cells::keeps_all;
+use crate::sequence::budget;
+use crate::sequence::halton_point;
 use glyphs::bounds::Bounds;
 use glyphs::bounds::Extents;
-use glyphs::halton::radical_inverse;
+use glyphs::halton::put_weights;
 use glyphs::rect::Point;
 use glyphs::rect::clear_of_obstacles;
 use glyphs::spots::put_spot;
@@ -34,42 +36,16 @@ pub enum Anchor {
     At(Point),
 }
 
-// How many candidates a pass tries for n marks.
-fn budget(n: usize) -> usize
-    ensures { λ r. ⌜ r ≡ budget n ⌝ }
-{
-    if n >= 10_000 {
-        return 1_000_000;
-    }
-    let hundredfold = n * 100;
-    if hundredfold < 1024 {
-        return 1024;
-    }
-    hundredfold
-}
-
-// The point of the sequence in a box.
-fn halton_point(e: Extents, index: usize) -> Point
-    requires { ⌜ index < 1000000 ⌝ }
-    ensures { λ r. ⌜ r ≡ haltonPoint (e .«min_x») (e .«max_x») (e .«min_y») (e .«max_y») index ⌝ }
-{
-    let number = index as u64 + 1;
-    Point {
-        x: e.min_x + (e.max_x - e.min_x) * radical_inverse(number, 2),
-        y: e.min_y + (e.max_y - e.min_y) * radical_inverse(number, 3),
-    }
-}
-
 // What is tried at an index: the anchor first.
-fn candidate(anchor: Anchor, e: Extents, index: usize) -> Point
-    requires { ⌜ index < 1000000 ⌝ }
+fn candidate(anchor: Anchor, e: Extents, halves: &[f64], thirds: &[f64], index: usize) -> Point
+    requires { ⌜ Inverses (now halves) (now thirds) × (index < 1000000) ⌝ }
     ensures { λ r. ⌜ r ≡ firstOr anchor index (haltonPoint (e .«min_x») (e .«max_x») (e .«min_y») (e .«max_y») index) ⌝ }
 {
     if index > 0 {
-        return halton_point(e, index);
+        return halton_point(e, halves, thirds, index);
     }
     let Anchor::At(p) = anchor else {
-        return halton_point(e, index);
+        return halton_point(e, halves, thirds, index);
     };
     p
 }
@@ -125,6 +101,42 @@ fn put_if(
     m
 }
 
+// One pass over the candidates, with `start` spots placed before, by the weights of the sequence.
+fn pass_by(
+    honor: bool,
+    anchor: Anchor,
+    e: Extents,
+    halves: &[f64],
+    thirds: &[f64],
+    sizes: &[usize],
+    coords: &[f64],
+    n: usize,
+    margin: Margin,
+    near: &[f64],
+    cells: Cells,
+    start: usize,
+    hints: &mut [usize; 4096],
+    spots: &mut [f64],
+) -> usize
+    requires { ⌜ (0 < length (now sizes)) × (sum (now sizes) * 2 ≤ length (now coords)) × (margin ≡ marginOf (margin .least)) × (start ≤ n) × (n * 2 ≤ length (now spots)) × Inverses (now halves) (now thirds) ⌝ }
+    ensures { λ r. ⌜ (r ≡ length (passIn (pieceOf (now (sizes .entry)) (now (coords .entry))) n (margin .least) (rectangles (now (near .entry))) cells anchor e honor (budget n) 0 (take start (spotsOf (now (spots .entry)))))) × (now (spots .exit) ≡ written (flat (passIn (pieceOf (now (sizes .entry)) (now (coords .entry))) n (margin .least) (rectangles (now (near .entry))) cells anchor e honor (budget n) 0 (take start (spotsOf (now (spots .entry)))))) (now (spots .entry))) ⌝ }
+{
+    let turns = budget(n);
+    let mut placed = start;
+    let mut index = 0;
+    while index < turns {
+        if placed == n {
+            return placed;
+        }
+        let p = candidate(anchor, e, halves, thirds, index);
+        let before = spots_before(&spots[..], placed);
+        let admitted = admits(honor, p, sizes, coords, margin, near, cells, hints, before);
+        placed = put_if(admitted, p, cells, hints, &mut spots[..], placed);
+        index += 1;
+    }
+    placed
+}
+
 // One pass over the candidates, with `start` spots placed before.
 fn pass(
     honor: bool,
@@ -143,20 +155,26 @@ fn pass(
     requires { ⌜ (0 < length (now sizes)) × (sum (now sizes) * 2 ≤ length (now coords)) × (margin ≡ marginOf (margin .least)) × (start ≤ n) × (n * 2 ≤ length (now spots)) ⌝ }
     ensures { λ r. ⌜ (r ≡ length (passIn (pieceOf (now (sizes .entry)) (now (coords .entry))) n (margin .least) (rectangles (now (near .entry))) cells anchor e honor (budget n) 0 (take start (spotsOf (now (spots .entry)))))) × (now (spots .exit) ≡ written (flat (passIn (pieceOf (now (sizes .entry)) (now (coords .entry))) n (margin .least) (rectangles (now (near .entry))) cells anchor e honor (budget n) 0 (take start (spotsOf (now (spots .entry)))))) (now (spots .entry))) ⌝ }
 {
-    let turns = budget(n);
-    let mut placed = start;
-    let mut index = 0;
-    while index < turns {
-        if placed == n {
-            return placed;
-        }
-        let p = candidate(anchor, e, index);
-        let before = spots_before(&spots[..], placed);
-        let admitted = admits(honor, p, sizes, coords, margin, near, cells, hints, before);
-        placed = put_if(admitted, p, cells, hints, &mut spots[..], placed);
-        index += 1;
-    }
-    placed
+    let mut halves = [0.0; 64];
+    let mut thirds = [0.0; 64];
+    put_weights(2, &mut halves);
+    put_weights(3, &mut thirds);
+    pass_by(
+        honor,
+        anchor,
+        e,
+        &halves,
+        &thirds,
+        sizes,
+        coords,
+        n,
+        margin,
+        near,
+        cells,
+        start,
+        hints,
+        &mut spots[..],
+    )
 }
 
 // The deepest point of a piece, moved off its obstacles, for a lone mark.

@@ -1,4 +1,4 @@
--- `pass` meets its contract. The invariant: the spots placed are at the slice's front, and the rest of the pass from them on is the whole.
+-- `pass_by` meets its contract. The invariant: the spots placed are at the slice's front, and the rest of the pass from them on is the whole.
 -- Rests on the laws of a pass's turns and of spots placed one after another.
 use mathlib.Core.Path.{_≡_, refl, sym, ap, _∙_}
 use mathlib.Core.Bool.{cond}
@@ -18,11 +18,11 @@ use Rattle.regions.specs.Ring.{pieceOf}
 use Rattle.scatter.specs.LowDiscrepancy.{budget}
 use Rattle.scatter.specs.Passes.{admitsIn, passIn, pass-full, pass-step, pass-end}
 use Rattle.scatter.specs.Placed.{placedIf, placed-front, placed-same, length-if, put-if, one-more, length-placed}
-use Rattle.scatter.proofs.low.pass.Statement.{statement}
-use Rattle.scatter.proofs.low.pass.Tie as tie
+use Rattle.scatter.proofs.low.pass_by.Statement.{statement}
+use Rattle.scatter.proofs.low.pass_by.Tie as tie
 
 abbrev Inv-loop : tie.InvT-loop
-Inv-loop honor anchor e sizes coords n margin near cells start hints₀ spots₀ turns placed₀ index₀ hints spots placed index =
+Inv-loop honor anchor e halves thirds sizes coords n margin near cells start hints₀ spots₀ turns placed₀ index₀ hints spots placed index =
     (placed ≤ n)
     × (turns ≡ budget n)
     × (length spots ≡ length spots₀)
@@ -32,7 +32,7 @@ Inv-loop honor anchor e sizes coords n margin near cells start hints₀ spots₀
     × (passIn (pieceOf sizes coords) n (margin .least) (rectangles near) cells anchor e honor (turns - index) index ps ≡ passIn (pieceOf sizes coords) n (margin .least) (rectangles near) cells anchor e honor (budget n) 0 (take start (spotsOf spots₀)))
 
 abbrev μ-loop : tie.MeasureT-loop
-μ-loop honor anchor e sizes coords n margin near cells start hints₀ spots₀ turns placed₀ index₀ hints spots placed index = turns - index
+μ-loop honor anchor e halves thirds sizes coords n margin near cells start hints₀ spots₀ turns placed₀ index₀ hints spots placed index = turns - index
 
 loop-holds : tie.Need-loop-holds Inv-loop μ-loop
 loop-holds c =
@@ -100,8 +100,8 @@ returns-2 c =
     let e : l .inv .3 ≡ whole = sym (pass-end (pieceOf (a .sizes .now) (a .coords .now)) (a .n) (a .margin .least) (rectangles (a .near .now)) (a .cells) (a .anchor) (a .e) (a .honor) _ (l .index) (l .inv .3) (c .loop-test .left)) ∙ l .inv .6 in
     (sym (l .inv .4) ∙ ap length e, l .inv .5 ∙ ap (λ (ps : List Point). written (flat ps) (a .spots .now)) e)
 
-pub pass-spec : {M : Type 1} → statement M
-pass-spec =
+pub pass-by-spec : {M : Type 1} → statement M
+pass-by-spec =
     tie.close
     (tie.spec Inv-loop μ-loop
     (λ c κs. search needs)
