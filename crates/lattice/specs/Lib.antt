@@ -1,4 +1,5 @@
 pub mod Around
+pub mod Beside
 pub mod Context
 pub mod Escape
 pub mod Flat

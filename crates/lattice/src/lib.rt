@@ -1,4 +1,5 @@
 // discs.rs: what a packing is at, escapes from obstacles, and the lattice packer.
+pub mod beside;
 pub mod context;
 pub mod count;
 pub mod escape;

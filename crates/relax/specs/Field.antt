@@ -1,5 +1,6 @@
--- relax.rs, `Field`: the push on a mark, the clearance's gradient, and whether a mark may move to a place. Definitions only.
--- `Field` is the source's without the piece and the obstacles, which stand beside it.
+-- relax.rs, `Field`: the push on a mark, the clearance's gradient, and whether a mark may move to a place.
+-- `Field` is the source's without the piece and the obstacles, which stand beside it, and with the margin of the inset.
+use mathlib.Core.Path.{_≡_}
 use mathlib.Core.Bool.{Bool, true, not, cond, _&&_, _||_}
 use mathlib.Core.List.{List, [], _∷_}
 use Prim.Native.Nat.{ℕ, _+_}
@@ -14,6 +15,7 @@ use Rattle.glyphs.specs.Rect.{clearOfObstacles}
 use Rattle.glyphs.specs.Spots.{apart}
 use Rattle.regions.specs.Ring.{Piece}
 use Rattle.regions.specs.Clearance.{signedClearance}
+use Rattle.regions.specs.Margin.{marginOf}
 use Rattle.relax.specs.declared.Spreading.{Spreading}
 use Rattle.relax.specs.declared.push.Force.{Force}
 use Rattle.relax.specs.declared.field.Field.{Field}
@@ -35,11 +37,20 @@ fieldOf numbers spacing inset =
     record {
       spacing = spacing;
       inset = inset;
+      margin = marginOf inset;
       influence = numbers .influence *ᶠ spacing;
       «boundary_reach» = numbers .«boundary_influence» *ᶠ inset;
       «boundary_weight» = numbers .«boundary_weight»;
       probe = probeFactor *ᶠ inset;
     }
+
+-- the margin is that of the inset
+abbrev pub Sound : Field → Type 0
+Sound field = field .margin ≡ marginOf (field .inset)
+
+pub field-sound : (numbers : Spreading) (spacing inset : Float) (field : Field) → field ≡ fieldOf numbers spacing inset → Sound field
+unfolding fieldOf
+field-sound numbers spacing inset field e = rw e
 
 -- points[i]
 abbrev pub at : List Point → ℕ → Point

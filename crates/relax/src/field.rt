@@ -7,22 +7,25 @@ ghost use Rattle.float.specs.Ops.{_*ᶠ_};
 ghost use Rattle.glyphs.specs.Rect.{rectangles, clearOfObstacles};
 ghost use Rattle.glyphs.specs.Spots.{spotsOf};
 ghost use Rattle.regions.specs.Ring.{sum, pieceOf};
-ghost use Rattle.relax.specs.Field.{fieldOf, clearanceGradient, pushInward, forceOn, clearOfOthers, accepts};
+ghost use Rattle.relax.specs.Field.{fieldOf, Sound, clearanceGradient, pushInward, forceOn, clearOfOthers, accepts};
 use crate::Spreading;
 use crate::push::Force;
 use crate::push::push_others;
 use glyphs::rect::Point;
-use glyphs::rect::clear_of_obstacles;
 use glyphs::spots::apart_from_all;
 use glyphs::spots::spot;
 use glyphs::spots::spots_after;
 use glyphs::spots::spots_before;
 use regions::clearance::signed_clearance;
+use regions::margin::Margin;
+use regions::pillars::clears_obstacles;
 
-// The distances that marks keep, and the reaches made of them. The piece and its obstacles are handed beside it.
+// The distances that marks keep, and the margin and the reaches made of them. The piece and its obstacles are
+// handed beside it.
 pub struct Field {
     pub spacing: f64,
     pub inset: f64,
+    pub margin: Margin,
     pub influence: f64,
     pub boundary_reach: f64,
     pub boundary_weight: f64,
@@ -45,9 +48,11 @@ impl Field {
     pub fn of(numbers: Spreading, spacing: f64, inset: f64) -> Field
         ensures { λ r. ⌜ r ≡ fieldOf numbers spacing inset ⌝ }
     {
+        let margin = Margin::of(inset);
         Field {
             spacing,
             inset,
+            margin,
             influence: numbers.influence * spacing,
             boundary_reach: numbers.boundary_influence * inset,
             boundary_weight: numbers.boundary_weight,
@@ -118,10 +123,12 @@ impl Field {
 
     // Whether a place is clear of the obstacles, where that is asked of it.
     fn clear_if(self, honoring: bool, place: Point, obstacles: &[f64]) -> bool
+        requires { ⌜ Sound self ⌝ }
         ensures { λ r. ⌜ r ≡ not (honoring && not (clearOfObstacles (place .x) (place .y) (rectangles (now (obstacles .entry))) (self .inset))) ⌝ }
     {
         if honoring {
-            return clear_of_obstacles(place.x, place.y, obstacles, self.inset);
+            let margin = self.margin;
+            return clears_obstacles(place.x, place.y, obstacles, margin);
         }
         true
     }
@@ -137,7 +144,7 @@ impl Field {
         sizes: &[usize],
         coords: &[f64],
     ) -> Acceptance
-        requires { ⌜ (i < length (now spots) / 2) × (0 < length (now sizes)) × (sum (now sizes) * 2 ≤ length (now coords)) ⌝ }
+        requires { ⌜ (i < length (now spots) / 2) × (0 < length (now sizes)) × (sum (now sizes) * 2 ≤ length (now coords)) × Sound self ⌝ }
         ensures { λ r. ⌜ r ≡ accepts self (pieceOf (now (sizes .entry)) (now (coords .entry))) (rectangles (now (obstacles .entry))) candidate i (spotsOf (now (spots .entry))) honoring ⌝ }
     {
         if !self.clear_of_others(candidate, i, spots) {

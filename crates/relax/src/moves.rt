@@ -5,6 +5,7 @@ ghost use lib.ListN.{length};
 ghost use Rattle.glyphs.specs.Rect.{rectangles};
 ghost use Rattle.glyphs.specs.Spots.{spotsOf};
 ghost use Rattle.regions.specs.Ring.{sum, pieceOf};
+ghost use Rattle.relax.specs.Field.{Sound};
 ghost use Rattle.relax.specs.Scatter.{relaxPoint};
 ghost use Rattle.relax.specs.Moves.{scatterOf, surroundings, firstAccepted, pushedTo, settled};
 use crate::Spreading;
@@ -35,7 +36,7 @@ fn first_accepted(
     backtracks: u32,
     first: f64,
 ) -> Move
-    requires { ⌜ (i < length (now spots) / 2) × (0 < length (now sizes)) × (sum (now sizes) * 2 ≤ length (now coords)) ⌝ }
+    requires { ⌜ (i < length (now spots) / 2) × (0 < length (now sizes)) × (sum (now sizes) * 2 ≤ length (now coords)) × Sound field ⌝ }
     ensures { λ r. ⌜ r ≡ firstAccepted field (pieceOf (now (sizes .entry)) (now (coords .entry))) (rectangles (now (obstacles .entry))) i (spotsOf (now (spots .entry))) honoring towards (suc backtracks) first ⌝ }
 {
     let p = spot(spots, i);
@@ -71,7 +72,7 @@ fn pushed_to(
     backtracks: u32,
     max_step: f64,
 ) -> Move
-    requires { ⌜ (i < length (now spots) / 2) × (0 < length (now sizes)) × (sum (now sizes) * 2 ≤ length (now coords)) ⌝ }
+    requires { ⌜ (i < length (now spots) / 2) × (0 < length (now sizes)) × (sum (now sizes) * 2 ≤ length (now coords)) × Sound field ⌝ }
     ensures { λ r. ⌜ r ≡ pushedTo field (pieceOf (now (sizes .entry)) (now (coords .entry))) (rectangles (now (obstacles .entry))) i (spotsOf (now (spots .entry))) honoring f (suc backtracks) «max_step» ⌝ }
 {
     let magnitude = float::hypot(f.x, f.y);
@@ -120,7 +121,7 @@ pub fn relax_point(
     sizes: &[usize],
     coords: &[f64],
 )
-    requires { ⌜ (i < length (now clearances)) × (length (now spots) ≡ length (now clearances) * 2) × (length (now honoring) ≡ length (now clearances)) × (0 < length (now sizes)) × (sum (now sizes) * 2 ≤ length (now coords)) ⌝ }
+    requires { ⌜ (i < length (now clearances)) × (length (now spots) ≡ length (now clearances) * 2) × (length (now honoring) ≡ length (now clearances)) × (0 < length (now sizes)) × (sum (now sizes) * 2 ≤ length (now coords)) × Sound field ⌝ }
     ensures { λ _. ⌜ scatterOf (now (spots .exit)) (now (clearances .exit)) ≡ relaxPoint numbers (surroundings field (now (honoring .entry)) (now (obstacles .entry)) (now (sizes .entry)) (now (coords .entry))) «max_step» (scatterOf (now (spots .entry)) (now (clearances .entry))) i ⌝ }
 {
     let f = field.force_on(i, &spots[..], clearances[i], sizes, coords);

@@ -6,15 +6,17 @@ ghost use lib.ListN.{length};
 ghost use Rattle.glyphs.specs.Rect.{rectangles};
 ghost use Rattle.glyphs.specs.Spots.{spotsOf, flat};
 ghost use Rattle.regions.specs.Ring.{sum, pieceOf};
+ghost use Rattle.relax.specs.Field.{Sound};
 ghost use Rattle.relax.specs.Scatter.{maxStepOf, relaxSweep, relaxSweeps, relaxScatter, clearancesOf, honoringOf, idle};
 ghost use Rattle.relax.specs.Moves.{scatterOf, surroundings, flagOf};
 use crate::Spreading;
 use crate::field::Field;
 use crate::moves::relax_point;
-use glyphs::rect::clear_of_obstacles;
 use glyphs::rect::is_finite;
 use glyphs::spots::spot;
 use regions::clearance::signed_clearance;
+use regions::margin::Margin;
+use regions::pillars::clears_obstacles;
 
 // The greatest step of sweep `k`.
 fn longest_step(numbers: Spreading, spacing: f64, k: u32) -> f64
@@ -35,7 +37,7 @@ fn relax_sweep(
     sizes: &[usize],
     coords: &[f64],
 )
-    requires { ⌜ (length (now spots) ≡ length (now clearances) * 2) × (length (now honoring) ≡ length (now clearances)) × (0 < length (now sizes)) × (sum (now sizes) * 2 ≤ length (now coords)) ⌝ }
+    requires { ⌜ (length (now spots) ≡ length (now clearances) * 2) × (length (now honoring) ≡ length (now clearances)) × (0 < length (now sizes)) × (sum (now sizes) * 2 ≤ length (now coords)) × Sound field ⌝ }
     ensures { λ _. ⌜ scatterOf (now (spots .exit)) (now (clearances .exit)) ≡ relaxSweep numbers (surroundings field (now (honoring .entry)) (now (obstacles .entry)) (now (sizes .entry)) (now (coords .entry))) (scatterOf (now (spots .entry)) (now (clearances .entry))) k ⌝ }
 {
     let max_step = longest_step(numbers, field.spacing, k);
@@ -67,7 +69,7 @@ fn relax_sweeps(
     sizes: &[usize],
     coords: &[f64],
 )
-    requires { ⌜ (length (now spots) ≡ length (now clearances) * 2) × (length (now honoring) ≡ length (now clearances)) × (0 < length (now sizes)) × (sum (now sizes) * 2 ≤ length (now coords)) ⌝ }
+    requires { ⌜ (length (now spots) ≡ length (now clearances) * 2) × (length (now honoring) ≡ length (now clearances)) × (0 < length (now sizes)) × (sum (now sizes) * 2 ≤ length (now coords)) × Sound field ⌝ }
     ensures { λ _. ⌜ scatterOf (now (spots .exit)) (now (clearances .exit)) ≡ relaxSweeps numbers (surroundings field (now (honoring .entry)) (now (obstacles .entry)) (now (sizes .entry)) (now (coords .entry))) (scatterOf (now (spots .entry)) (now (clearances .entry))) ⌝ }
 {
     let mut k = 0u32;
@@ -112,10 +114,11 @@ fn note_honoring(spots: &[f64], honoring: &mut [f64], obstacles: &[f64], inset: 
     requires { ⌜ length (now spots) ≡ length (now honoring) * 2 ⌝ }
     ensures { λ _. ⌜ now (honoring .exit) ≡ map flagOf (honoringOf (rectangles (now (obstacles .entry))) inset (spotsOf (now (spots .entry)))) ⌝ }
 {
+    let margin = Margin::of(inset);
     let mut i = 0;
     while i < honoring.len() {
         let p = spot(spots, i);
-        honoring[i] = flag(clear_of_obstacles(p.x, p.y, obstacles, inset));
+        honoring[i] = flag(clears_obstacles(p.x, p.y, obstacles, margin));
         i += 1;
     }
 }

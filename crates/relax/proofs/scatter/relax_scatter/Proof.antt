@@ -8,6 +8,7 @@ use borrow.Author.Needs.{needs}
 use Rattle.glyphs.specs.Rect.{rectangles}
 use Rattle.glyphs.specs.Spots.{spotsOf, length-spots}
 use Rattle.regions.specs.Ring.{pieceOf}
+use Rattle.relax.specs.Field.{field-sound}
 use Rattle.relax.specs.Scatter.{idle, relaxSweeps, around, clearancesOf}
 use Rattle.relax.specs.Moves.{scatterOf}
 use Rattle.relax.specs.Notes.{flags-back}
@@ -24,6 +25,9 @@ returns c =
     let h : idle (length points) (a .spacing) ≡ true = rw (← n, ← c .before .idle .ensures) (c .if1 .taken) in
     let e = idle-end (a .numbers) points piece (rectangles (a .obstacles .now)) (a .spacing) (a .inset) (a .spots .now) (length (a .clearances .now)) refl (omega arith) h in
     (e .0, (c .before .before .before .before .note-clearances .ensures ∙ e .1, c .before .before .before .before .before .before .before .before .before .note-honoring .ensures))
+
+relax-sweeps-requires : tie.Need-relax-sweeps-requires
+relax-sweeps-requires c κs = (search needs, search needs, search needs, search needs, field-sound _ _ _ _ (c .before .before .before .of .ensures))
 
 returns-2 : tie.Need-returns-2
 returns-2 c =
@@ -56,7 +60,7 @@ relax-scatter-spec =
     (λ c. search needs)
     returns
     (λ c κs. search needs)
-    (λ c κs. search needs)
+    relax-sweeps-requires
     (λ c. search needs)
     (λ c. search needs)
     (λ c. search needs)

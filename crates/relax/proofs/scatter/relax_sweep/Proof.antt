@@ -30,6 +30,11 @@ abbrev μ-loop : tie.MeasureT-loop
 loop-holds : tie.Need-loop-holds Inv-loop μ-loop
 loop-holds c = (search needs, search needs, search needs, refl)
 
+relax-point-requires : tie.Need-relax-point-requires Inv-loop μ-loop
+relax-point-requires c κs =
+    let s = c .before .before .before .before .before .before .before .before .before .before .before in
+    (search needs, search needs, search needs, search needs, search needs, s .pre .4)
+
 loop-again : tie.Need-loop-again Inv-loop μ-loop
 loop-again c =
     let l = c .before .before .before .before .before .before .before .before .loop in
@@ -65,7 +70,7 @@ relax-sweep-spec =
     (tie.spec Inv-loop μ-loop
     (λ c κs. search needs)
     loop-holds
-    (λ c κs. search needs)
+    relax-point-requires
     (λ c. search needs)
     (λ c. search needs)
     loop-again
