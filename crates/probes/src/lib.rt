@@ -145,7 +145,7 @@ pub extern "C" fn probe_relax_scatter(
     let n = spots.len() / 2;
     let mut clearances = [0.0; 2000];
     let mut honoring = [0.0; 2000];
-    relax::scatter::relax_scatter(
+    relax::sweeps::relax_scatter(
         relax::Spreading::SOURCE,
         spots,
         &mut clearances[..n],

@@ -2,7 +2,7 @@
 pub mod field;
 pub mod moves;
 pub mod push;
-pub mod scatter;
+pub mod sweeps;
 
 // The numbers of relax.rs: sweeps; the reach of a neighbour's push, in spacings; the reach of the boundary's push,
 // in insets, and its weight; the greatest step, in spacings; how often a refused step is halved.

@@ -29,7 +29,7 @@ use lattice::uniform::piece_bounds;
 use regions::margin::Margin;
 use regions::margin::clears;
 use relax::Spreading;
-use relax::scatter::relax_scatter;
+use relax::sweeps::relax_scatter;
 
 // How many marks are placed, and the stream after them.
 pub struct Taken {

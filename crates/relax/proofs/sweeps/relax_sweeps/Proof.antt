@@ -10,8 +10,8 @@ use Rattle.laws.specs.Lists.{upTo, upTo-at, length-upTo}
 use Rattle.laws.specs.Folds.{fold-step, fold-end}
 use Rattle.relax.specs.Scatter.{relaxSweep, relaxSweeps}
 use Rattle.relax.specs.Moves.{scatterOf, surroundings}
-use Rattle.relax.proofs.scatter.relax_sweeps.Statement.{statement}
-use Rattle.relax.proofs.scatter.relax_sweeps.Tie as tie
+use Rattle.relax.proofs.sweeps.relax_sweeps.Statement.{statement}
+use Rattle.relax.proofs.sweeps.relax_sweeps.Tie as tie
 
 abbrev Inv-loop : tie.InvT-loop
 Inv-loop numbers field spots₀ clearances₀ honoring obstacles sizes coords k₀ spots clearances k =

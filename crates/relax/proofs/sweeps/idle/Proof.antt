@@ -3,8 +3,8 @@
 use borrow.Author.Needs.{needs}
 use borrow.Author.Tests.{eq-eqb, ne-eqb}
 use Rattle.relax.specs.Scatter.{idle}
-use Rattle.relax.proofs.scatter.idle.Statement.{statement}
-use Rattle.relax.proofs.scatter.idle.Tie as tie
+use Rattle.relax.proofs.sweeps.idle.Statement.{statement}
+use Rattle.relax.proofs.sweeps.idle.Tie as tie
 
 returns : tie.Need-returns
 unfolding idle

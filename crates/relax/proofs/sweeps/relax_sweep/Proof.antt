@@ -11,8 +11,8 @@ use Rattle.laws.specs.Folds.{fold-step, fold-end}
 use Rattle.glyphs.specs.Spots.{spotsOf, length-spots}
 use Rattle.relax.specs.Scatter.{relaxPoint, relaxSweep}
 use Rattle.relax.specs.Moves.{scatterOf, surroundings}
-use Rattle.relax.proofs.scatter.relax_sweep.Statement.{statement}
-use Rattle.relax.proofs.scatter.relax_sweep.Tie as tie
+use Rattle.relax.proofs.sweeps.relax_sweep.Statement.{statement}
+use Rattle.relax.proofs.sweeps.relax_sweep.Tie as tie
 
 abbrev Inv-loop : tie.InvT-loop
 Inv-loop numbers field k spots₀ clearances₀ honoring obstacles sizes coords max-step i₀ spots clearances i =

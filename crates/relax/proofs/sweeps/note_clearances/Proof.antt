@@ -8,8 +8,8 @@ use borrow.Author.Needs.{needs}
 use Rattle.laws.specs.Lists.{tabulate, written, write-next}
 use Rattle.regions.specs.Ring.{pieceOf}
 use Rattle.relax.specs.Notes.{clearanceAt, clearances-noted}
-use Rattle.relax.proofs.scatter.note_clearances.Statement.{statement}
-use Rattle.relax.proofs.scatter.note_clearances.Tie as tie
+use Rattle.relax.proofs.sweeps.note_clearances.Statement.{statement}
+use Rattle.relax.proofs.sweeps.note_clearances.Tie as tie
 
 abbrev Inv-loop : tie.InvT-loop
 Inv-loop spots clearances₀ sizes coords i₀ clearances i =

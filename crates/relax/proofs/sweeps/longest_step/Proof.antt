@@ -3,8 +3,8 @@
 use mathlib.Core.Path.{refl}
 use borrow.Author.Needs.{needs}
 use Rattle.relax.specs.Scatter.{maxStepOf}
-use Rattle.relax.proofs.scatter.longest_step.Statement.{statement}
-use Rattle.relax.proofs.scatter.longest_step.Tie as tie
+use Rattle.relax.proofs.sweeps.longest_step.Statement.{statement}
+use Rattle.relax.proofs.sweeps.longest_step.Tie as tie
 
 pub longest-step-spec : {M : Type 1} → statement M
 unfolding maxStepOf

@@ -13,8 +13,8 @@ use Rattle.relax.specs.Scatter.{idle, relaxSweeps, around, clearancesOf}
 use Rattle.relax.specs.Moves.{scatterOf}
 use Rattle.relax.specs.Notes.{flags-back}
 use Rattle.relax.specs.Ends.{idle-end, busy-end}
-use Rattle.relax.proofs.scatter.relax_scatter.Statement.{statement}
-use Rattle.relax.proofs.scatter.relax_scatter.Tie as tie
+use Rattle.relax.proofs.sweeps.relax_scatter.Statement.{statement}
+use Rattle.relax.proofs.sweeps.relax_scatter.Tie as tie
 
 returns : tie.Need-returns
 returns c =

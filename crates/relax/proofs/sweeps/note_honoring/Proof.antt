@@ -9,8 +9,8 @@ use Rattle.laws.specs.Lists.{tabulate, written, write-next}
 use Rattle.glyphs.specs.Rect.{rectangles}
 use Rattle.regions.specs.Margin.{least-of-margin, margin-own}
 use Rattle.relax.specs.Notes.{flagAt, flags-noted}
-use Rattle.relax.proofs.scatter.note_honoring.Statement.{statement}
-use Rattle.relax.proofs.scatter.note_honoring.Tie as tie
+use Rattle.relax.proofs.sweeps.note_honoring.Statement.{statement}
+use Rattle.relax.proofs.sweeps.note_honoring.Tie as tie
 
 abbrev Inv-loop : tie.InvT-loop
 Inv-loop spots honoring₀ obstacles inset margin i₀ honoring i =
