@@ -18,7 +18,6 @@ use glyphs::bounds::Bounds;
 use glyphs::bounds::Extents;
 use glyphs::halton::radical_inverse;
 use glyphs::rect::Point;
-use glyphs::rect::clear_of_obstacles;
 use glyphs::spots::put_spot;
 use glyphs::spots::spots_before;
 use lattice::context::PackCtx;
@@ -27,6 +26,7 @@ use lattice::near::near_obstacles;
 use lattice::uniform::piece_bounds;
 use regions::margin::Margin;
 use regions::margin::clears;
+use regions::pillars::clears_obstacles;
 
 // The place that a lone mark tries first.
 pub enum Anchor {
@@ -99,7 +99,7 @@ fn admits(
         return false;
     }
     if honor {
-        return clear_of_obstacles(p.x, p.y, near, margin.least);
+        return clears_obstacles(p.x, p.y, near, margin);
     }
     true
 }
