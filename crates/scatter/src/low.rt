@@ -20,7 +20,6 @@ use glyphs::bounds::Bounds;
 use glyphs::bounds::Extents;
 use glyphs::halton::put_weights;
 use glyphs::rect::Point;
-use glyphs::rect::clear_of_obstacles;
 use glyphs::spots::put_spot;
 use glyphs::spots::spots_before;
 use lattice::context::PackCtx;
@@ -29,6 +28,7 @@ use lattice::near::near_obstacles;
 use lattice::uniform::piece_bounds;
 use regions::margin::Margin;
 use regions::margin::clears;
+use regions::pillars::clears_obstacles;
 
 // The place that a lone mark tries first.
 pub enum Anchor {
@@ -75,7 +75,7 @@ fn admits(
         return false;
     }
     if honor {
-        return clear_of_obstacles(p.x, p.y, near, margin.least);
+        return clears_obstacles(p.x, p.y, near, margin);
     }
     true
 }

@@ -18,7 +18,6 @@ ghost use Rattle.scatter.specs.Darts.{Holds, passFrom};
 use glyphs::bounds::Bounds;
 use glyphs::bounds::Extents;
 use glyphs::rect::Point;
-use glyphs::rect::clear_of_obstacles;
 use glyphs::spots::apart_from_all;
 use glyphs::spots::put_spot;
 use glyphs::spots::spots_before;
@@ -28,6 +27,7 @@ use lattice::near::near_obstacles;
 use lattice::uniform::piece_bounds;
 use regions::margin::Margin;
 use regions::margin::clears;
+use regions::pillars::clears_obstacles;
 use relax::Spreading;
 use relax::sweeps::relax_scatter;
 
@@ -59,7 +59,7 @@ fn lands(
         return false;
     }
     if honor {
-        return clear_of_obstacles(p.x, p.y, near, margin.least);
+        return clears_obstacles(p.x, p.y, near, margin);
     }
     true
 }

@@ -37,7 +37,7 @@ returns-4 c =
     let a = cleared .before .before .before .before .before .before .before .before .args in
     let e = spaced .before .keeps-all in
     let f = cleared .before .clears in
-    c .clear-of-obstacles .ensures
+    c .clears-obstacles .ensures
     ∙ sym (by-obstacles (pieceOf (a .sizes .now) (a .coords .now)) (a .margin .least) (rectangles (a .near .now)) (a .cells) (a .honor) (spotsOf (a .placed .now)) (a .p)
     (sym (e .ensures) ∙ not-false (e .result) (spaced .if3 .left)) (sym (f .ensures) ∙ not-false (f .result) (cleared .if2 .left)) (c .before .if4 .taken))
 

@@ -31,6 +31,11 @@ returns-2 c =
       not-true (clear .result) (c .if2 .taken),
     )
 
+clears-obstacles-requires : tie.Need-clears-obstacles-requires
+clears-obstacles-requires c κs =
+    let s = c .before .before .before .before .before .before .before .before .before .before in
+    margin-own _ _ (s .pre .2)
+
 returns-3 : tie.Need-returns-3
 returns-3 c =
     let asked = c .before in
@@ -46,7 +51,7 @@ returns-3 c =
       ← clear .ensures,
       not-false (clear .result) (asked .before .if2 .left),
       asked .if3 .taken,
-      c .clear-of-obstacles .ensures,
+      c .clears-obstacles .ensures,
     )
 
 returns-4 : tie.Need-returns-4
@@ -74,6 +79,6 @@ lands-spec =
     returns
     clears-requires
     returns-2
-    (λ c κs. search needs)
+    clears-obstacles-requires
     returns-3
     returns-4)
