@@ -1,4 +1,5 @@
 pub mod Around
+pub mod Beside
 pub mod Context
 pub mod Escape
 pub mod Flat
@@ -6,6 +7,7 @@ pub mod Gather
 pub mod Held
 pub mod Keys
 pub mod Lattice
+pub mod Level
 pub mod Near
 pub mod Nearest
 pub mod Rows
