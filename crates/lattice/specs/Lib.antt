@@ -3,6 +3,7 @@ pub mod Beside
 pub mod Context
 pub mod Escape
 pub mod Flat
+pub mod Found
 pub mod Gather
 pub mod Held
 pub mod Keys
