@@ -23,7 +23,7 @@ fn put_obstacle(out: &mut [f64], k: usize, rect: Rectangle)
 }
 
 // Puts an obstacle behind the `m` of a list, where it is to be there, and answers how many there are then.
-fn put_if(near: bool, rect: Rectangle, out: &mut [f64], m: usize) -> usize
+pub fn put_if(near: bool, rect: Rectangle, out: &mut [f64], m: usize) -> usize
     requires { ⌜ m * 4 + 3 < length (now out) ⌝ }
     ensures { λ r. ⌜ (r ≤ m + 1) × (rectsFrom (now (out .exit)) 0 r ≡ rectsFrom (now (out .entry)) 0 m ++ cond near (rect ∷ []) []) ⌝ }
 {

@@ -17,7 +17,7 @@ use Rattle.float.specs.Order.{sqrt}
 use Rattle.float.specs.Root.{rootOf}
 use Rattle.float.specs.Laws.Nan.{Number, le-number}
 use Rattle.float.specs.Laws.Zero.{origin, origin-is, zero-ge, plain-above}
-use Rattle.float.specs.Laws.Compare.{le-trans, lt-le, lt-not-le, not-lt-le, neg-le, le-self}
+use Rattle.float.specs.Laws.Compare.{le-trans, le-lt-trans, lt-le, lt-not-le, not-lt-le, neg-le, le-self}
 use Rattle.float.specs.Laws.Monotone.{root-above, rootOf-mono}
 use Rattle.glyphs.specs.Points.{Ring, vertices}
 use Rattle.regions.specs.Ring.{Piece}
@@ -169,23 +169,20 @@ high-square c u h =
     let s = c *ᶠ c *ᶠ literal 0x3ff0_0068_db8b_ac71 in
     high-of (c ≤ᶠ sqrt s) s u c refl h
 
-below-low : (c low x : Float) → T (le origin x) → T (lt (sqrt low) c) → T (le x low) → c ≤ᶠ sqrt x ≡ false
-below-low c low x p l h =
-    refuted (c ≤ᶠ sqrt x) (λ (k : T (le c (sqrt x))). lt-not-le (sqrt low) c l (le-trans c (sqrt x) (sqrt low) k (rootOf-mono binary64 x low p h)))
+-- a square below `low` has no root of at least c
+pub low-square-below : (c x : Float) → T (lt x (lowSquare c)) → c ≤ᶠ sqrt x ≡ false
+low-square-below c x h =
+    refuted (c ≤ᶠ sqrt x)
+    (λ (k : T (le c (sqrt x))).
+    let p = root-number x (le-number c (sqrt x) k .1) in
+    lt-not-le (sqrt (lowSquare c)) c (low-square c x p h) (le-trans c (sqrt x) (sqrt (lowSquare c)) k (rootOf-mono binary64 x (lowSquare c) p (lt-le x (lowSquare c) h))))
 
-stopped-same : (c u l : Float) → Good l → Stopped (lowSquare c) u l → c ≤ᶠ sqrt u ≡ c ≤ᶠ sqrt l
-stopped-same c u l g s =
+stopped-same : (c u l : Float) → Stopped (lowSquare c) u l → c ≤ᶠ sqrt u ≡ c ≤ᶠ sqrt l
+stopped-same c u l s =
     elim s [
       | inl e ↦ ap (λ (x : Float). c ≤ᶠ sqrt x) e
-      | inr h ↦ low u l (at-least-zero l g) (h .0) (h .1)
+      | inr h ↦ low-square-below c u (h .0) ∙ sym (low-square-below c l (le-lt-trans l u (lowSquare c) (h .1) (h .0)))
     ]
-  where
-    low : (u l : Float) → T (le origin l) → T (lt u (lowSquare c)) → T (le l u) → c ≤ᶠ sqrt u ≡ c ≤ᶠ sqrt l
-    low u l p h k =
-        let q = le-trans origin l u p k in
-        let t = lt-le u (lowSquare c) h in
-        let r = low-square c u q h in
-        below-low c (lowSquare c) u q r t ∙ sym (below-low c (lowSquare c) l p r (le-trans l u (lowSquare c) k t))
 
 -- ---- the law
 
@@ -193,7 +190,7 @@ pub until-at-least :
     (px py c : Float) (rings : List Ring) → c ≤ᶠ sqrt (untilOfRings px py (lowSquare c) rings) ≡ c ≤ᶠ minDistToRings px py rings
 unfolding untilOfRings leastOfRings
 until-at-least px py c rings =
-    stopped-same c _ _ (rings-good px py ∞ rings ∞-good) (rings-stopped px py (lowSquare c) ∞ ∞ rings ∞-good (inl refl))
+    stopped-same c _ _ (rings-stopped px py (lowSquare c) ∞ ∞ rings ∞-good (inl refl))
     ∙ ap (λ (x : Float). c ≤ᶠ x) (sym (least-root px py rings))
 
 pub flat : T (le (neg origin) origin)

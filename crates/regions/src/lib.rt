@@ -4,4 +4,5 @@ pub mod area;
 pub mod clearance;
 pub mod inside;
 pub mod margin;
+pub mod pillars;
 pub mod ring;

@@ -98,13 +98,16 @@ fn rings_square_until(px: f64, py: f64, low: f64, sizes: &[usize], coords: &[f64
     best
 }
 
-// Whether the root of the least square, looked for until it is below the margin's, is at least the clearance.
-fn root_at_least(square: f64, margin: Margin) -> bool
+// Whether the root of a square is at least the clearance: a root is taken only between the margin's squares.
+pub fn root_at_least(square: f64, margin: Margin) -> bool
     requires { ⌜ margin ≡ marginOf (margin .least) ⌝ }
     ensures { λ r. ⌜ r ≡ (margin .least ≤ᶠ sqrt square) ⌝ }
 {
     if square >= margin.high {
         return true;
+    }
+    if square < margin.low {
+        return false;
     }
     margin.least <= float::root(square)
 }
