@@ -1,5 +1,6 @@
 pub mod Around
 pub mod Context
+pub mod Crossings
 pub mod Escape
 pub mod Flat
 pub mod Gather
