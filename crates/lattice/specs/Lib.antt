@@ -1,6 +1,8 @@
 pub mod Around
 pub mod Context
+pub mod Edges
 pub mod Escape
+pub mod Far
 pub mod Flat
 pub mod Gather
 pub mod Held

@@ -1,6 +1,7 @@
 // discs.rs: what a packing is at, escapes from obstacles, and the lattice packer.
 pub mod context;
 pub mod count;
+pub mod edges;
 pub mod escape;
 pub mod gather;
 pub mod near;
