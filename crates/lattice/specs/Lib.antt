@@ -1,7 +1,9 @@
 pub mod Around
 pub mod Context
 pub mod Crossings
+pub mod Edges
 pub mod Escape
+pub mod Far
 pub mod Flat
 pub mod Gather
 pub mod Held

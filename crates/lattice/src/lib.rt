@@ -2,6 +2,7 @@
 pub mod context;
 pub mod count;
 pub mod crossings;
+pub mod edges;
 pub mod escape;
 pub mod gather;
 pub mod near;
