@@ -1,7 +1,10 @@
 pub mod Around
 pub mod Beside
 pub mod Context
+pub mod Crossings
+pub mod Edges
 pub mod Escape
+pub mod Far
 pub mod Flat
 pub mod Found
 pub mod Gather

@@ -2,6 +2,8 @@
 pub mod beside;
 pub mod context;
 pub mod count;
+pub mod crossings;
+pub mod edges;
 pub mod escape;
 pub mod gather;
 pub mod level;
