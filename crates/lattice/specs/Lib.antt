@@ -9,6 +9,7 @@ pub mod Gather
 pub mod Held
 pub mod Keys
 pub mod Lattice
+pub mod Level
 pub mod Near
 pub mod Nearest
 pub mod Rows

@@ -5,6 +5,7 @@ pub mod crossings;
 pub mod edges;
 pub mod escape;
 pub mod gather;
+pub mod level;
 pub mod near;
 pub mod nearest;
 pub mod rows;
