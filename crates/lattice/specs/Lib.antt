@@ -1,12 +1,17 @@
 pub mod Around
 pub mod Beside
 pub mod Context
+pub mod Crossings
+pub mod Edges
 pub mod Escape
+pub mod Far
 pub mod Flat
+pub mod Found
 pub mod Gather
 pub mod Held
 pub mod Keys
 pub mod Lattice
+pub mod Level
 pub mod Near
 pub mod Nearest
 pub mod Rows

@@ -2,8 +2,11 @@
 pub mod beside;
 pub mod context;
 pub mod count;
+pub mod crossings;
+pub mod edges;
 pub mod escape;
 pub mod gather;
+pub mod level;
 pub mod near;
 pub mod nearest;
 pub mod rows;
