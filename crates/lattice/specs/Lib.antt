@@ -6,9 +6,11 @@ pub mod Gather
 pub mod Held
 pub mod Keys
 pub mod Lattice
+pub mod Merge
 pub mod Near
 pub mod Nearest
 pub mod Rows
+pub mod Run
 pub mod Span
 pub mod Spread
 pub mod Taken
