@@ -3,6 +3,7 @@ pub mod Context
 pub mod Escape
 pub mod Flat
 pub mod Gather
+pub mod Gathered
 pub mod Held
 pub mod Keys
 pub mod Lattice
@@ -16,3 +17,4 @@ pub mod Spread
 pub mod Taken
 pub mod Tally
 pub mod Uniform
+pub mod Waiting

@@ -2,12 +2,11 @@
 -- Rests on the order being linear.
 use mathlib.Core.Path.{_≡_, refl, sym, ap, _∙_}
 use mathlib.Core.Bool.{true, false}
-use mathlib.Core.List.{List, [], _∷_, _++_, foldl, append-assoc, append-nil}
-use Prim.Native.Nat.{ℕ, _+_, _≤_, Ordering, Ordering·lt, Ordering·eq, Ordering·gt}
+use mathlib.Core.List.{List, [], _∷_, _++_, append-assoc, append-nil}
+use Prim.Native.Nat.{ℕ, _+_, Ordering, Ordering·lt, Ordering·eq, Ordering·gt}
 use native.Mathlib.Omega.{arith}
 use lib.ListN.{length, take}
-use lib.Seq.{take-all}
-use Rattle.laws.specs.Bounded.{behind, insertBehind, length-behind, take-behind, sort-last}
+use Rattle.laws.specs.Bounded.{behind, insertBehind, length-behind, take-behind, behind-ascending, sort-last}
 use Rattle.laws.specs.Every.{Every}
 use Rattle.laws.specs.Orders.{Linear, reverse, isLt, level-right}
 use Rattle.laws.specs.Sort.{place, insert, sortBy}
@@ -141,6 +140,11 @@ module _ {A : Type 0} (cmp : A → A → Ordering) where
     pub last-only : (ps : List A) (y : A) → Ascending cmp (ps ++ y ∷ []) → inserted [] (ps ++ y ∷ []) ≡ inserted [] ps ++ y ∷ []
     last-only ps y b = goes-last [] ps y b tt
 
+    pub inserted-ascending : (xs ps : List A) → Ascending cmp xs → Ascending cmp (inserted xs ps)
+    unfolding inserted
+    inserted-ascending xs [] a = a
+    inserted-ascending xs (p ∷ ps) a = inserted-ascending (insertBehind cmp p xs) ps (behind-ascending cmp l p xs a)
+
     -- ---- what comes is put in order first
     insert-front : (x : A) (xs : List A) → None-below cmp x xs → insert cmp x xs ≡ x ∷ xs
     unfolding insert
@@ -185,24 +189,3 @@ module _ {A : Type 0} (cmp : A → A → Ordering) where
     -- and only the first n of all are kept
     pub kept-more : (n : ℕ) (xs ps : List A) (p : A) → Ascending cmp xs → Ascending cmp ps → take n (inserted xs (insertBehind cmp p ps)) ≡ take n (insertBehind cmp p (take n (inserted xs ps)))
     kept-more n xs ps p a b = ap (take n) (inserted-more xs ps p a b) ∙ take-behind cmp n p (inserted xs ps)
-
-    -- all of them
-    inserted-run : (xs ps : List A) → Ascending cmp xs → inserted xs (inserted [] ps) ≡ inserted xs ps
-    unfolding sortBy
-    inserted-run xs ps a =
-        inserted-sorted xs (inserted [] ps) a
-        ∙ ap (λ (t : List A). sortBy cmp (xs ++ t)) (sorted-inserted [] ps)
-        ∙ sort-second xs ps
-        ∙ sym (inserted-sorted xs ps a)
-
-    abbrev keepFirst : ℕ → List A → A → List A
-    keepFirst n xs p = take n (insertBehind cmp p xs)
-
-    kept-each : (n : ℕ) (xs ps : List A) → foldl (keepFirst n) (take n xs) ps ≡ take n (inserted xs ps)
-    unfolding inserted
-    kept-each n xs [] = refl
-    kept-each n xs (p ∷ ps) = ap (λ (t : List A). foldl (keepFirst n) t ps) (sym (take-behind cmp n p xs)) ∙ kept-each n (insertBehind cmp p xs) ps
-
-    pub kept-run : (n : ℕ) (xs ps : List A) → length xs ≤ n → Ascending cmp xs → take n (inserted xs (inserted [] ps)) ≡ foldl (keepFirst n) xs ps
-    kept-run n xs ps h a =
-        ap (take n) (inserted-run xs ps a) ∙ sym (kept-each n xs ps) ∙ ap (λ (t : List A). foldl (keepFirst n) t ps) (take-all n xs h)

@@ -20,11 +20,18 @@ use crate::rows::row_height;
 use crate::span::ceil_rank;
 use crate::span::floor_rank;
 use crate::span::many;
+use crate::waiting::Free;
 use glyphs::rect::Point;
 use glyphs::rect::clear_of_obstacles;
 use glyphs::rect::is_finite;
 use regions::margin::Margin;
 use regions::margin::clears;
+
+// The numbers of the cells that are gathered.
+pub struct Gathered {
+    pub free: Free,
+    pub blocked: usize,
+}
 
 // One more cell, among at most `nf` free and `nb` blocked ones.
 fn gather_cell(
