@@ -19,7 +19,7 @@ use Rattle.regions.specs.Clearance.{signedClearance}
 use Rattle.lattice.specs.Escape.{point}
 use Rattle.lattice.specs.Keys.{linear-by}
 use Rattle.lattice.specs.Lattice.{HexCells, noCells, never, judge, byAnchor, sortByAnchor, hexEnumCap, rowHeight, allCells, cellsWithin}
-use Rattle.lattice.specs.Rows.{rowOf, width, cellX, cellsFrom, visit, firstRow, lastRow, cells-step, cells-end, rows-step, last-row, no-cells-left, no-rows, visited}
+use Rattle.lattice.specs.Rows.{rowOf, width, cellX, cellsFrom, visit, firstRow, lastRow, no-cells, cells-step, cells-end, rows-step, last-row, no-cells-left, no-rows, visited}
 use Rattle.lattice.specs.Tally.{cellsOf}
 use Rattle.lattice.specs.declared.rows.Field.{Field}
 use Rattle.lattice.specs.declared.rows.Row.{Row}
@@ -121,6 +121,9 @@ module _ (piece : Piece) (min-clearance : Float) (near : List Rectangle) (anchor
 
   pub row-done : (cells : HexCells) (row : Row) (s : Float) (k m : ℕ) → m ≤ k → gather cells (cellsFrom row s k (m - k)) ≡ cells
   row-done cells row s k m h = rw (cells-end row s k m h)
+
+  pub row-none : (cells : HexCells) (row : Row) (s : Float) (m : ℕ) → m ≡ 0 → gather cells (cellsFrom row s 0 m) ≡ cells
+  row-none cells row s m z = rw (z, no-cells)
 
   module _ (cells : HexCells) (field : Field) (row-h : Float) (u last left : ℕ) (h : u ≤ last) (row : Row) (e : row ≡ rowOf field row-h u) (m : ℕ) (em : m ≡ min (width row) left) where
     pub rows-turn : gather cells (visit left field row-h u last) ≡ gather (gather cells (cellsFrom row (field .lattice .spacing) 0 m)) (visit (left - m) field row-h (u + 1) last)

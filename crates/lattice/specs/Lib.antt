@@ -1,12 +1,15 @@
 pub mod Around
+pub mod Beside
 pub mod Context
 pub mod Escape
 pub mod Flat
+pub mod Found
 pub mod Gather
 pub mod Gathered
 pub mod Held
 pub mod Keys
 pub mod Lattice
+pub mod Level
 pub mod Merge
 pub mod Near
 pub mod Nearest

@@ -57,6 +57,10 @@ unfolding cellsFrom
 length-cells row s k zero = refl
 length-cells row s k (suc n) = ap suc (length-cells row s (k + 1) n)
 
+pub no-cells : (row : Row) (s : Float) (k : ℕ) → cellsFrom row s k 0 ≡ []
+unfolding cellsFrom
+no-cells row s k = refl
+
 pub take-cells : (row : Row) (s : Float) (m k n : ℕ) → take m (cellsFrom row s k n) ≡ cellsFrom row s k (min n m)
 unfolding cellsFrom
 take-cells row s zero k n = let e : min n 0 ≡ 0 = omega arith in rw e

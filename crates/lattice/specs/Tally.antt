@@ -19,7 +19,7 @@ use Rattle.regions.specs.Clearance.{signedClearance}
 use Rattle.regions.specs.Margin.{marginOf}
 use Rattle.lattice.specs.Escape.{point}
 use Rattle.lattice.specs.Lattice.{HexCells, noCells, Cap, at, reached, judge, hexEnumCap, rowHeight, allCells, cellsWithin}
-use Rattle.lattice.specs.Rows.{rowOf, width, cellX, cellsFrom, visit, firstRow, lastRow, length-cells, cells-step, cells-end, rows-step, last-row, no-cells-left, no-rows, visited}
+use Rattle.lattice.specs.Rows.{rowOf, width, cellX, cellsFrom, visit, firstRow, lastRow, length-cells, no-cells, cells-step, cells-end, rows-step, last-row, no-cells-left, no-rows, visited}
 use Rattle.lattice.specs.declared.count.Counts.{Counts}
 use Rattle.lattice.specs.declared.rows.Field.{Field}
 use Rattle.lattice.specs.declared.rows.Row.{Row}
@@ -92,6 +92,10 @@ module _ (piece : Piece) (min-clearance : Float) (near : List Rectangle) where
   pub row-end : (cap : ℕ) (t : Counts) (row : Row) (s : Float) (k m : ℕ) → m ≤ k → tally cap t (cellsFrom row s k (m - k)) ≡ t
   unfolding tally
   row-end cap t row s k m h = rw (cells-end row s k m h)
+
+  pub row-none : (cap : ℕ) (t : Counts) (row : Row) (s : Float) (m : ℕ) → m ≡ 0 → tally cap t (cellsFrom row s 0 m) ≡ t
+  unfolding tally
+  row-none cap t row s m z = rw (z, no-cells)
 
   -- ---- one list after another
   append-into :

@@ -4,9 +4,16 @@ ghost use Prim.Native.Nat.{_+_, _≤_, _<_};
 ghost use Rattle.glyphs.specs.Rect.{rectangles};
 ghost use Rattle.regions.specs.Ring.{pieceOf};
 ghost use Rattle.lattice.specs.Escape.{point};
+ghost use Rattle.lattice.specs.Found.{Found};
 ghost use Rattle.lattice.specs.Lattice.{hexEnumCap, at};
 ghost use Rattle.lattice.specs.Rows.{width, cellsFrom, visit};
 ghost use Rattle.lattice.specs.Tally.{Sound, countsOf, cellsOf, none, countCell, tally};
+use crate::beside::Beside;
+use crate::beside::beside_at;
+use crate::beside::beside_clears;
+use crate::level::Level;
+use crate::level::level_at;
+use crate::level::level_clears;
 use crate::rows::Field;
 use crate::rows::Row;
 use crate::rows::cell_x;
@@ -15,30 +22,35 @@ use crate::rows::row_height;
 use crate::span::ceil_rank;
 use crate::span::floor_rank;
 use crate::span::many;
-use glyphs::rect::clear_of_obstacles;
 use glyphs::rect::is_finite;
 use regions::margin::Margin;
-use regions::margin::clears;
 
 pub struct Counts {
     pub free: usize,
     pub blocked: usize,
 }
 
+// One more cell, with what was found for its row.
 fn count_cell(
     x: f64,
     y: f64,
+    level: Level,
+    beside: Beside,
     sizes: &[usize],
     coords: &[f64],
     margin: Margin,
     near: &[f64],
+    edges: &[f64; 256],
+    crossings: &[f64; 32],
+    ends: &[usize; 16],
+    pillars: &[f64; 128],
     t: Counts,
 ) -> Counts
-    requires { ⌜ Sound (now sizes) (now coords) margin × (t .free < 1000000) × (t .blocked < 1000000) ⌝ }
+    requires { ⌜ Sound (now sizes) (now coords) margin × Found y level beside margin (now sizes) (now coords) (now near) (now edges) (now crossings) (now ends) (now pillars) × (t .free < 1000000) × (t .blocked < 1000000) ⌝ }
     ensures { λ r. ⌜ r ≡ countCell (pieceOf (now (sizes .entry)) (now (coords .entry))) (margin .least) (rectangles (now (near .entry))) t (point x y) ⌝ }
 {
-    if clears(x, y, sizes, coords, margin) {
-        if clear_of_obstacles(x, y, near, margin.least) {
+    if level_clears(x, level, sizes, coords, margin, edges, crossings, ends) {
+        if beside_clears(x, beside, near, margin, pillars) {
             return Counts {
                 free: t.free + 1,
                 blocked: t.blocked,
@@ -63,15 +75,38 @@ fn count_row(
     near: &[f64],
     cap: usize,
     start: Counts,
+    edges: &mut [f64; 256],
+    crossings: &mut [f64; 32],
+    ends: &mut [usize; 16],
+    pillars: &mut [f64; 128],
 ) -> Counts
     requires { ⌜ Sound (now sizes) (now coords) margin × (m ≤ width row) × (start .free + m ≤ 1000000) × (start .blocked + m ≤ 1000000) ⌝ }
     ensures { λ r. ⌜ r ≡ tally (pieceOf (now (sizes .entry)) (now (coords .entry))) (margin .least) (rectangles (now (near .entry))) cap start (cellsFrom row s 0 m) ⌝ }
 {
-    let mut t = start;
+    if m == 0 {
+        return start;
+    }
     let y = row.y;
+    let level = level_at(y, sizes, coords, margin, edges, crossings, ends);
+    let beside = beside_at(y, near, margin, pillars);
+    let mut t = start;
     let mut k = 0;
     while k < m {
-        t = count_cell(cell_x(row, s, k), y, sizes, coords, margin, near, t);
+        t = count_cell(
+            cell_x(row, s, k),
+            y,
+            level,
+            beside,
+            sizes,
+            coords,
+            margin,
+            near,
+            edges,
+            crossings,
+            ends,
+            pillars,
+            t,
+        );
         if t.free >= cap {
             return t;
         }
@@ -100,12 +135,30 @@ fn count_rows(
         free: 0,
         blocked: 0,
     };
+    let mut edges = [0.0; 256];
+    let mut crossings = [0.0; 32];
+    let mut ends = [0; 16];
+    let mut pillars = [0.0; 128];
     let mut left = 1_000_000;
     let mut u = first;
     while u < last {
         let row = row_at(field, row_h, u);
         let m = many(row.first, row.last, left);
-        t = count_row(row, m, s, sizes, coords, margin, near, cap, t);
+        t = count_row(
+            row,
+            m,
+            s,
+            sizes,
+            coords,
+            margin,
+            near,
+            cap,
+            t,
+            &mut edges,
+            &mut crossings,
+            &mut ends,
+            &mut pillars,
+        );
         if t.free >= cap {
             return t;
         }
@@ -117,7 +170,21 @@ fn count_rows(
     }
     let row = row_at(field, row_h, last);
     let m = many(row.first, row.last, left);
-    count_row(row, m, s, sizes, coords, margin, near, cap, t)
+    count_row(
+        row,
+        m,
+        s,
+        sizes,
+        coords,
+        margin,
+        near,
+        cap,
+        t,
+        &mut edges,
+        &mut crossings,
+        &mut ends,
+        &mut pillars,
+    )
 }
 
 // The numbers of free and of blocked cells.

@@ -5,12 +5,19 @@ ghost use Prim.Native.Nat.{_*_, _≤_};
 ghost use lib.ListN.{length};
 ghost use Rattle.glyphs.specs.Rect.{rectangles};
 ghost use Rattle.regions.specs.Ring.{pieceOf};
+ghost use Rattle.lattice.specs.Found.{Found};
 ghost use Rattle.lattice.specs.Gather.{kept, gatherCell, gather};
 ghost use Rattle.lattice.specs.Held.{heldIn, Holds, Ready};
 ghost use Rattle.lattice.specs.Lattice.{hexEnumCap, never};
 ghost use Rattle.lattice.specs.Rows.{width, cellsFrom, visit};
 ghost use Rattle.lattice.specs.Tally.{Sound, cellsOf};
+use crate::beside::Beside;
+use crate::beside::beside_at;
+use crate::beside::beside_clears;
 use crate::count::Counts;
+use crate::level::Level;
+use crate::level::level_at;
+use crate::level::level_clears;
 use crate::nearest::keep;
 use crate::rows::Field;
 use crate::rows::Row;
@@ -22,10 +29,8 @@ use crate::span::floor_rank;
 use crate::span::many;
 use crate::waiting::Free;
 use glyphs::rect::Point;
-use glyphs::rect::clear_of_obstacles;
 use glyphs::rect::is_finite;
 use regions::margin::Margin;
-use regions::margin::clears;
 
 // The numbers of the cells that are gathered.
 pub struct Gathered {
@@ -33,13 +38,19 @@ pub struct Gathered {
     pub blocked: usize,
 }
 
-// One more cell, among at most `nf` free and `nb` blocked ones.
+// One more cell, with what was found for its row, among at most `nf` free and `nb` blocked ones.
 fn gather_cell(
     p: Point,
+    level: Level,
+    beside: Beside,
     sizes: &[usize],
     coords: &[f64],
     margin: Margin,
     near: &[f64],
+    edges: &[f64; 256],
+    crossings: &[f64; 32],
+    ends: &[usize; 16],
+    pillars: &[f64; 128],
     anchor: Point,
     nf: usize,
     nb: usize,
@@ -47,13 +58,13 @@ fn gather_cell(
     blocked: &mut [f64],
     t: Counts,
 ) -> Counts
-    requires { ⌜ Sound (now sizes) (now coords) margin × Ready anchor nf nb t (now free) (now blocked) ⌝ }
+    requires { ⌜ Sound (now sizes) (now coords) margin × Found (p .y) level beside margin (now sizes) (now coords) (now near) (now edges) (now crossings) (now ends) (now pillars) × Ready anchor nf nb t (now free) (now blocked) ⌝ }
     ensures { λ r. ⌜ Holds (gatherCell (pieceOf (now (sizes .entry)) (now (coords .entry))) (margin .least) (rectangles (now (near .entry))) anchor nf nb (heldIn t (now (free .entry)) (now (blocked .entry))) p) r (now (free .exit)) (now (blocked .exit)) (now (free .entry)) (now (blocked .entry)) ⌝ }
 {
-    if !clears(p.x, p.y, sizes, coords, margin) {
+    if !level_clears(p.x, level, sizes, coords, margin, edges, crossings, ends) {
         return t;
     }
-    if clear_of_obstacles(p.x, p.y, near, margin.least) {
+    if beside_clears(p.x, beside, near, margin, pillars) {
         let m = keep(&mut free[..], t.free, nf, anchor, p);
         return Counts {
             free: m,
@@ -82,23 +93,39 @@ fn gather_row(
     free: &mut [f64],
     blocked: &mut [f64],
     start: Counts,
+    edges: &mut [f64; 256],
+    crossings: &mut [f64; 32],
+    ends: &mut [usize; 16],
+    pillars: &mut [f64; 128],
 ) -> Counts
     requires { ⌜ Sound (now sizes) (now coords) margin × (m ≤ width row) × Ready anchor nf nb start (now free) (now blocked) ⌝ }
     ensures { λ r. ⌜ Holds (gather (pieceOf (now (sizes .entry)) (now (coords .entry))) (margin .least) (rectangles (now (near .entry))) anchor nf nb (heldIn start (now (free .entry)) (now (blocked .entry))) (cellsFrom row s 0 m)) r (now (free .exit)) (now (blocked .exit)) (now (free .entry)) (now (blocked .entry)) ⌝ }
 {
+    if m == 0 {
+        return start;
+    }
+    let y = row.y;
+    let level = level_at(y, sizes, coords, margin, edges, crossings, ends);
+    let beside = beside_at(y, near, margin, pillars);
     let mut t = start;
     let mut k = 0;
     while k < m {
         let p = Point {
             x: cell_x(row, s, k),
-            y: row.y,
+            y,
         };
         t = gather_cell(
             p,
+            level,
+            beside,
             sizes,
             coords,
             margin,
             near,
+            edges,
+            crossings,
+            ends,
+            pillars,
             anchor,
             nf,
             nb,
@@ -133,6 +160,10 @@ fn gather_rows(
     let s = field.lattice.spacing;
     let anchor = field.anchor;
     let mut t = start;
+    let mut edges = [0.0; 256];
+    let mut crossings = [0.0; 32];
+    let mut ends = [0; 16];
+    let mut pillars = [0.0; 128];
     let mut left = 1_000_000;
     let mut u = first;
     while u < last {
@@ -152,6 +183,10 @@ fn gather_rows(
             &mut free[..],
             &mut blocked[..],
             t,
+            &mut edges,
+            &mut crossings,
+            &mut ends,
+            &mut pillars,
         );
         left -= m;
         if left == 0 {
@@ -175,6 +210,10 @@ fn gather_rows(
         &mut free[..],
         &mut blocked[..],
         t,
+        &mut edges,
+        &mut crossings,
+        &mut ends,
+        &mut pillars,
     )
 }
 

@@ -1,8 +1,10 @@
 // discs.rs: what a packing is at, escapes from obstacles, and the lattice packer.
+pub mod beside;
 pub mod context;
 pub mod count;
 pub mod escape;
 pub mod gather;
+pub mod level;
 pub mod near;
 pub mod nearest;
 pub mod rows;

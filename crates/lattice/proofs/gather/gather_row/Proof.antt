@@ -3,13 +3,14 @@
 use Prim.Native.Nat.{_≤_, _-_, _+_}
 use mathlib.Core.Path.{_≡_, refl, sym, ap, _∙_}
 use native.Mathlib.Nat.{sub-zero}
+use native.Mathlib.Omega.{arith}
 use borrow.Author.Needs.{needs}
 use lib.ListN.{length}
 use lib.Ieee.{Float}
 use Rattle.glyphs.specs.Rect.{rectangles}
 use Rattle.regions.specs.Ring.{pieceOf}
 use Rattle.lattice.specs.Escape.{point}
-use Rattle.lattice.specs.Gather.{gatherCell, gather, gathered-fit, row-turn, row-done}
+use Rattle.lattice.specs.Gather.{gatherCell, gather, gathered-fit, row-none, row-turn, row-done}
 use Rattle.lattice.specs.Held.{heldIn, Holds, Ready, holds-start, holds-as, turn}
 use Rattle.lattice.specs.Lattice.{HexCells}
 use Rattle.lattice.specs.Rows.{cellsFrom}
@@ -17,7 +18,7 @@ use Rattle.lattice.proofs.gather.gather_row.Statement.{statement}
 use Rattle.lattice.proofs.gather.gather_row.Tie as tie
 
 abbrev Inv-loop : tie.InvT-loop
-Inv-loop row m s sizes coords margin near anchor nf nb free₀ blocked₀ t₀ k₀ free blocked t k =
+Inv-loop row m s sizes coords margin near anchor nf nb free₀ blocked₀ edges crossings ends pillars y level beside t₀ k₀ free blocked t k =
     (k ≤ m)
     × (length free ≡ length free₀)
     × (length blocked ≡ length blocked₀)
@@ -27,25 +28,50 @@ Inv-loop row m s sizes coords margin near anchor nf nb free₀ blocked₀ t₀ k
     ≡ gather (pieceOf sizes coords) (margin .least) (rectangles near) anchor nf nb (heldIn t free blocked) (cellsFrom row s k (m - k)))
 
 abbrev μ-loop : tie.MeasureT-loop
-μ-loop row m s sizes coords margin near anchor nf nb free₀ blocked₀ t₀ k₀ free blocked t k = m - k
+μ-loop row m s sizes coords margin near anchor nf nb free₀ blocked₀ edges crossings ends pillars y level beside t₀ k₀ free blocked t k = m - k
+
+returns : tie.Need-returns Inv-loop μ-loop
+returns c =
+    let s = c .before .before .before .before .before .before in
+    let a = s .args in
+    holds-as (holds-start (a .anchor) (a .nf) (a .nb) (a .start) (a .free .now) (a .blocked .now) (s .pre .2)) (sym (row-none _ _ _ _ _ _ _ _ _ _ (c .if1 .taken)))
 
 loop-holds : tie.Need-loop-holds Inv-loop μ-loop
 loop-holds c =
-    let s = c .before .before .before .before .before in
+    let s = c .before .before .before .before .before .before .before .before .before .before .before .before in
     let a = s .args in
     (search needs, refl, refl, s .pre .2, holds-start (a .anchor) (a .nf) (a .nb) (a .start) (a .free .now) (a .blocked .now) (s .pre .2), simp sub-zero)
 
+cell-x-requires : tie.Need-cell-x-requires Inv-loop μ-loop
+cell-x-requires c κs =
+    let s = c .before .before .before .before .before .before .before .before .before .before .before .before .before .before in
+    omega (arith, c .loop-test .taken, s .pre .1)
+
 gather-cell-requires : tie.Need-gather-cell-requires Inv-loop μ-loop
 gather-cell-requires c κs =
-    let l = c .before .before .before .before .loop in
-    (c .before .before .before .before .before .before .before .before .before .before .pre .0, l .inv .3)
+    let l = c .before .before .before .before .before .before .before .before in
+    let beside = l .before in
+    let level = beside .before .before in
+    let s = level .before .before .before .before .before .before .before .before .before .before in (
+      s .pre .0,
+      record { level-y = level .level-at .ensures .0; beside-y = beside .beside-at .ensures .0; levelled = level .level-at .ensures .1; beside-of = beside .beside-at .ensures .1 },
+      l .loop .inv .3,
+    )
+
+add-k : tie.Need-add-k Inv-loop μ-loop
+add-k c =
+    let test = c .before .before .before .before .before .before .before .before .before .before .before .before in
+    omega (arith, test .loop-test .taken, test .before .before .before .before .before .before .before .before .before .before .before .before .before .before .fits .m)
+
+loop-less : tie.Need-loop-less Inv-loop μ-loop
+loop-less c = omega (arith, c .before .before .before .before .before .before .before .before .before .before .before .before .loop-test .taken)
 
 loop-again : tie.Need-loop-again Inv-loop μ-loop
 loop-again c =
     let called = c .before .before .before .before in
-    let placed = called .before .before .before in
+    let placed = called .before .before .before .before .before .before .before in
     let l = placed .before .before .loop in
-    let a = placed .before .before .before .before .before .before .before .before .args in
+    let a = placed .before .before .before .before .before .before .before .before .before .before .before .before .before .before .before .args in
     let piece = pieceOf (a .sizes .now) (a .coords .now) in
     let near = rectangles (a .near .now) in
     let cells = heldIn (l .t) (l .free) (l .blocked) in
@@ -65,8 +91,8 @@ loop-again c =
           (ap (λ (x : Float). gatherCell piece (a .margin .least) near (a .anchor) (a .nf) (a .nb) cells (point x (a .row .y))) (sym (placed .cell-x .ensures)) ∙ sym (held .0)),
     )
 
-returns : tie.Need-returns Inv-loop μ-loop
-returns c =
+returns-2 : tie.Need-returns-2 Inv-loop μ-loop
+returns-2 c =
     let l = c .before .loop in
     holds-as (l .inv .4) (sym (l .inv .5 ∙ row-done _ _ _ _ _ _ _ _ _ _ _ (c .loop-test .left)))
 
@@ -74,12 +100,15 @@ pub gather-row-spec : {M : Type 1} → statement M
 gather-row-spec =
     tie.close
     (tie.spec Inv-loop μ-loop
-    loop-holds
+    returns
     (λ c κs. search needs)
+    (λ c κs. search needs)
+    loop-holds
+    cell-x-requires
     gather-cell-requires
-    (λ c. search needs)
-    (λ c. search needs)
+    add-k
+    loop-less
     loop-again
     (λ c. search needs)
     (λ c. search needs)
-    returns)
+    returns-2)
