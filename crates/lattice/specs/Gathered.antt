@@ -52,12 +52,12 @@ module _ (anchor : Point) (nf nb : ℕ) (t : Counts) (f b g : List Float) (r : R
   abbrev begun : Gathered
   begun = record { free = record { kept = t .free; waiting = 0 }; blocked = t .blocked }
 
-  pub waits-begun : 64 ≤ length g → Waits anchor nf nb begun f b g
+  pub waits-begun : Waits anchor nf nb begun f b g
   unfolding points
-  waits-begun h =
+  waits-begun =
       record {
         ready = r;
-        line = record { kept-le = free-le anchor nf nb t f b r; room = r .free-room; order = r .fit .free-order; waiting-le = omega arith; run-room = h; run-order = tt };
+        line = record { kept-le = free-le anchor nf nb t f b r; room = r .free-room; order = r .fit .free-order; waiting-le = omega arith; run-order = tt };
       }
 
   pub begun-are : gatheredIn anchor nf begun f b g ≡ heldIn t f b
@@ -78,16 +78,16 @@ module _ (anchor : Point) (nf nb : ℕ) (t : Gathered) (f b g : List Float) (w :
 
   -- ---- after it, when those that wait are merged
   pub holds-merged :
-      (m : ℕ) (f′ : List Float) → m ≡ min (t .free .kept + t .free .waiting) nf → f′ ≡ written (flat (lined anchor nf (t .free) f g)) f
+      64 ≤ length g → (m : ℕ) (f′ : List Float) → m ≡ min (t .free .kept + t .free .waiting) nf → f′ ≡ written (flat (lined anchor nf (t .free) f g)) f
       → Holds (gatheredIn anchor nf t f b g) (record { free = m; blocked = t .blocked }) f′ b f b
-  holds-merged m f′ n e =
-      let c : m ≡ length (lined anchor nf (t .free) f g) = n ∙ sym (length-lined anchor nf (t .free) f g (w .line)) in
+  holds-merged room m f′ n e =
+      let c : m ≡ length (lined anchor nf (t .free) f g) = n ∙ sym (length-lined anchor nf (t .free) f g (w .line) room) in
       let d = blocked-number in
       record { counts = cc; free-is = e; blocked-is = start .blocked-is }
 
-  pub merged-fit : Fit anchor nf nb (gatheredIn anchor nf t f b g) × Grown (heldIn (keptOf t) f b) (gatheredIn anchor nf t f b g)
-  merged-fit =
-      let n = length-lined anchor nf (t .free) f g (w .line) in (
+  pub merged-fit : 64 ≤ length g → Fit anchor nf nb (gatheredIn anchor nf t f b g) × Grown (heldIn (keptOf t) f b) (gatheredIn anchor nf t f b g)
+  merged-fit room =
+      let n = length-lined anchor nf (t .free) f g (w .line) room in (
         record {
           free-fits = omega arith;
           blocked-fits = w .ready .fit .blocked-fits;

@@ -18,7 +18,7 @@ returns-2 c =
     let merged = c .before .before in
     let s = merged .before .before .before .before .before .before in
     let a = s .args in
-    let f = flushed (a .anchor) (a .nf) (a .t) (a .free .now) (a .run .now) (s .pre) (merged .merge-run .result) (merged .merge-run .last .0) (merged .merge-run .ensures .0) (merged .merge-run .ensures .1) in
+    let f = flushed (a .anchor) (a .nf) (a .t) (a .free .now) (a .run .now) (s .pre) (omega arith) (merged .merge-run .result) (merged .merge-run .last .0) (merged .merge-run .ensures .0) (merged .merge-run .ensures .1) in
     (omega arith, f .0, f .1, f .2)
 
 pub flush-full-spec : {M : Type 1} → statement M
