@@ -151,14 +151,13 @@ pub fn merge_run(
     let mut j = k;
     while j > 0 {
         let p = cell(run, j - 1);
-        if is_before_last(&cells[..], i, anchor, p) {
+        while is_before_last(&cells[..], i, anchor, p) {
             i -= 1;
             let q = cell(&cells[..], i);
             put_below(&mut cells[..], cap, i + j, q);
-        } else {
-            j -= 1;
-            put_below(&mut cells[..], cap, i + j, p);
         }
+        j -= 1;
+        put_below(&mut cells[..], cap, i + j, p);
     }
     lesser(m + k, cap)
 }
