@@ -66,7 +66,7 @@ points-at (suc m) (x ∷ y ∷ l) (suc k) d g h =
     let f : suc k * 2 + 1 ≡ suc (suc (k * 2 + 1)) = omega arith in
     rw (f, e) (points-at m l k d (omega arith) (omega arith))
 
-take-points : (k m : ℕ) (l : List Float) → k ≤ m → take k (points m l) ≡ points k l
+pub take-points : (k m : ℕ) (l : List Float) → k ≤ m → take k (points m l) ≡ points k l
 unfolding points
 take-points zero m l h = refl
 take-points (suc k) zero l h = absurd (omega arith)

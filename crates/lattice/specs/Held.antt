@@ -133,20 +133,6 @@ module _ (anchor : Point) (nf nb : ℕ) (t : Counts) (f b : List Float) (r : Rea
       omega arith
 
   module _ (piece : Piece) (c : Float) (near : List Rectangle) (p : Point) where
-    pub holds-out : signedClearance (p .x) (p .y) piece ≥ᶠ c ≡ false → Holds (gatherCell piece c near anchor nf nb (heldIn t f b) p) t f b f b
-    unfolding gatherCell
-    holds-out e = rw e holds-start
-
-    pub holds-free :
-        signedClearance (p .x) (p .y) piece ≥ᶠ c ≡ true → clearOfObstacles (p .x) (p .y) near c ≡ true
-        → (k : ℕ) → k ≡ min (suc (t .free)) nf → (f′ : List Float) → f′ ≡ written (flat (take nf (insertBehind (byAnchor anchor) p (points (t .free) f)))) f
-        → Holds (gatherCell piece c near anchor nf nb (heldIn t f b) p) (record { free = k; blocked = t .blocked }) f′ b f b
-    unfolding gatherCell
-    holds-free e g k n f′ h =
-        let i : k ≡ length (take nf (insertBehind (byAnchor anchor) p (points (t .free) f))) = kept-number nf p (points (t .free) f) (t .free) k free-number n in
-        let j = blocked-number in
-        rw (e, g) (record { counts = cc; free-is = h; blocked-is = same-blocked })
-
     pub holds-blocked :
         signedClearance (p .x) (p .y) piece ≥ᶠ c ≡ true → clearOfObstacles (p .x) (p .y) near c ≡ false
         → (k : ℕ) → k ≡ min (suc (t .blocked)) nb → (b′ : List Float) → b′ ≡ written (flat (take nb (insertBehind (byAnchor anchor) p (points (t .blocked) b)))) b

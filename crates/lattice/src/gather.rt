@@ -7,6 +7,7 @@ ghost use Rattle.glyphs.specs.Rect.{rectangles};
 ghost use Rattle.regions.specs.Ring.{pieceOf};
 ghost use Rattle.lattice.specs.Found.{Found};
 ghost use Rattle.lattice.specs.Gather.{kept, gatherCell, gather};
+ghost use Rattle.lattice.specs.Gathered.{Gathers, Waits, gatheredIn};
 ghost use Rattle.lattice.specs.Held.{heldIn, Holds, Ready};
 ghost use Rattle.lattice.specs.Lattice.{hexEnumCap, never};
 ghost use Rattle.lattice.specs.Rows.{width, cellsFrom, visit};
@@ -19,6 +20,7 @@ use crate::level::Level;
 use crate::level::level_at;
 use crate::level::level_clears;
 use crate::nearest::keep;
+use crate::nearest::merge_run;
 use crate::rows::Field;
 use crate::rows::Row;
 use crate::rows::cell_x;
@@ -27,9 +29,17 @@ use crate::rows::row_height;
 use crate::span::ceil_rank;
 use crate::span::floor_rank;
 use crate::span::many;
+use crate::waiting::Free;
+use crate::waiting::wait;
 use glyphs::rect::Point;
 use glyphs::rect::is_finite;
 use regions::margin::Margin;
+
+// The numbers of the cells that are gathered.
+pub struct Gathered {
+    pub free: Free,
+    pub blocked: usize,
+}
 
 // One more cell, with what was found for its row, among at most `nf` free and `nb` blocked ones.
 fn gather_cell(
@@ -49,29 +59,31 @@ fn gather_cell(
     nb: usize,
     free: &mut [f64],
     blocked: &mut [f64],
-    t: Counts,
-) -> Counts
-    requires { ⌜ Sound (now sizes) (now coords) margin × Found (p .y) level beside margin (now sizes) (now coords) (now near) (now edges) (now crossings) (now ends) (now pillars) × Ready anchor nf nb t (now free) (now blocked) ⌝ }
-    ensures { λ r. ⌜ Holds (gatherCell (pieceOf (now (sizes .entry)) (now (coords .entry))) (margin .least) (rectangles (now (near .entry))) anchor nf nb (heldIn t (now (free .entry)) (now (blocked .entry))) p) r (now (free .exit)) (now (blocked .exit)) (now (free .entry)) (now (blocked .entry)) ⌝ }
+    run: &mut [f64; 64],
+    t: Gathered,
+) -> Gathered
+    requires { ⌜ Sound (now sizes) (now coords) margin × Found (p .y) level beside margin (now sizes) (now coords) (now near) (now edges) (now crossings) (now ends) (now pillars) × Waits anchor nf nb t (now free) (now blocked) (now run) ⌝ }
+    ensures { λ r. ⌜ Gathers anchor nf nb (gatherCell (pieceOf (now (sizes .entry)) (now (coords .entry))) (margin .least) (rectangles (now (near .entry))) anchor nf nb (gatheredIn anchor nf t (now (free .entry)) (now (blocked .entry)) (now (run .entry))) p) t r (now (free .exit)) (now (blocked .exit)) (now (run .exit)) (now (free .entry)) (now (blocked .entry)) ⌝ }
 {
     if !level_clears(p.x, level, sizes, coords, margin, edges, crossings, ends) {
         return t;
     }
+    let f = t.free;
     if beside_clears(p.x, beside, near, margin, pillars) {
-        let m = keep(&mut free[..], t.free, nf, anchor, p);
-        return Counts {
-            free: m,
+        let later = wait(p, anchor, nf, &mut free[..], run, f);
+        return Gathered {
+            free: later,
             blocked: t.blocked,
         };
     }
     let m = keep(&mut blocked[..], t.blocked, nb, anchor, p);
-    Counts {
-        free: t.free,
+    Gathered {
+        free: f,
         blocked: m,
     }
 }
 
-// The first `m` cells of a row.
+// The first `m` cells of a row; of the free ones some wait in `run` until they are kept.
 fn gather_row(
     row: Row,
     m: usize,
@@ -90,6 +102,7 @@ fn gather_row(
     crossings: &mut [f64; 32],
     ends: &mut [usize; 16],
     pillars: &mut [f64; 128],
+    run: &mut [f64; 64],
 ) -> Counts
     requires { ⌜ Sound (now sizes) (now coords) margin × (m ≤ width row) × Ready anchor nf nb start (now free) (now blocked) ⌝ }
     ensures { λ r. ⌜ Holds (gather (pieceOf (now (sizes .entry)) (now (coords .entry))) (margin .least) (rectangles (now (near .entry))) anchor nf nb (heldIn start (now (free .entry)) (now (blocked .entry))) (cellsFrom row s 0 m)) r (now (free .exit)) (now (blocked .exit)) (now (free .entry)) (now (blocked .entry)) ⌝ }
@@ -100,7 +113,14 @@ fn gather_row(
     let y = row.y;
     let level = level_at(y, sizes, coords, margin, edges, crossings, ends);
     let beside = beside_at(y, near, margin, pillars);
-    let mut t = start;
+    let f = Free {
+        kept: start.free,
+        waiting: 0,
+    };
+    let mut t = Gathered {
+        free: f,
+        blocked: start.blocked,
+    };
     let mut k = 0;
     while k < m {
         let p = Point {
@@ -124,11 +144,23 @@ fn gather_row(
             nb,
             &mut free[..],
             &mut blocked[..],
+            run,
             t,
         );
         k += 1;
     }
-    t
+    let n = merge_run(
+        &mut free[..],
+        t.free.kept,
+        nf,
+        anchor,
+        &run[..],
+        t.free.waiting,
+    );
+    Counts {
+        free: n,
+        blocked: t.blocked,
+    }
 }
 
 // All rows, or up to the cell that is the last to be visited.
@@ -157,6 +189,7 @@ fn gather_rows(
     let mut crossings = [0.0; 32];
     let mut ends = [0; 16];
     let mut pillars = [0.0; 128];
+    let mut run = [0.0; 64];
     let mut left = 1_000_000;
     let mut u = first;
     while u < last {
@@ -180,6 +213,7 @@ fn gather_rows(
             &mut crossings,
             &mut ends,
             &mut pillars,
+            &mut run,
         );
         left -= m;
         if left == 0 {
@@ -207,6 +241,7 @@ fn gather_rows(
         &mut crossings,
         &mut ends,
         &mut pillars,
+        &mut run,
     )
 }
 

@@ -13,3 +13,4 @@ pub mod rows;
 pub mod span;
 pub mod spread;
 pub mod uniform;
+pub mod waiting;

@@ -10,6 +10,8 @@ ghost use Rattle.lattice.specs.Escape.{squaredDistance};
 ghost use Rattle.glyphs.specs.Spots.{flat};
 ghost use Rattle.lattice.specs.Flat.{points, pointAt, moved};
 ghost use Rattle.lattice.specs.Lattice.{byAnchor};
+ghost use Rattle.lattice.specs.Merge.{inserted};
+ghost use Rattle.lattice.specs.Run.{beforeLast, putBelow};
 use glyphs::rect::Point;
 
 pub fn squared_distance(a: Point, b: Point) -> f64
@@ -109,4 +111,53 @@ pub fn keep(cells: &mut [f64], m: usize, cap: usize, anchor: Point, p: Point) ->
         return e + 1;
     }
     m
+}
+
+// Whether `p` is before the last of the first `i` cells.
+fn is_before_last(cells: &[f64], i: usize, anchor: Point, p: Point) -> bool
+    requires { ⌜ i * 2 ≤ length (now cells) ⌝ }
+    ensures { λ r. ⌜ r ≡ beforeLast anchor p (now (cells .entry)) i ⌝ }
+{
+    if i == 0 {
+        return false;
+    }
+    precedes(anchor, p, cell(cells, i - 1))
+}
+
+// Puts `p` at the place `e`, where that is below `cap`.
+fn put_below(cells: &mut [f64], cap: usize, e: usize, p: Point)
+    requires { ⌜ cap * 2 ≤ length (now cells) ⌝ }
+    ensures { λ _. ⌜ now (cells .exit) ≡ putBelow cap (now (cells .entry)) e p ⌝ }
+{
+    if e < cap {
+        put(&mut cells[..], e, p);
+    }
+}
+
+// Puts a run of `k` cells in order among the `m` cells, from the last: so only those behind the run's first move.
+// What is past `cap` is dropped. Answers how many there are then.
+pub fn merge_run(
+    cells: &mut [f64],
+    m: usize,
+    cap: usize,
+    anchor: Point,
+    run: &[f64],
+    k: usize,
+) -> usize
+    requires { ⌜ (m ≤ cap) × (cap * 2 ≤ length (now cells)) × (k * 2 ≤ length (now run)) × Ascending (byAnchor anchor) (points m (now cells)) × Ascending (byAnchor anchor) (points k (now run)) ⌝ }
+    ensures { λ r. ⌜ (r ≡ min (m + k) cap) × (now (cells .exit) ≡ written (flat (take cap (inserted (byAnchor anchor) (points m (now (cells .entry))) (points k (now (run .entry)))))) (now (cells .entry))) ⌝ }
+{
+    let mut i = m;
+    let mut j = k;
+    while j > 0 {
+        let p = cell(run, j - 1);
+        while is_before_last(&cells[..], i, anchor, p) {
+            i -= 1;
+            let q = cell(&cells[..], i);
+            put_below(&mut cells[..], cap, i + j, q);
+        }
+        j -= 1;
+        put_below(&mut cells[..], cap, i + j, p);
+    }
+    lesser(m + k, cap)
 }

@@ -15,7 +15,7 @@ use Rattle.lattice.proofs.gather.gather_rows.Statement.{statement}
 use Rattle.lattice.proofs.gather.gather_rows.Tie as tie
 
 abbrev Inv-loop : tie.InvT-loop
-Inv-loop field row-h first last sizes coords margin near nf nb free₀ blocked₀ s anchor t₀ edges₀ crossings₀ ends₀ pillars₀ left₀ u₀ free blocked t edges crossings ends pillars left u =
+Inv-loop field row-h first last sizes coords margin near nf nb free₀ blocked₀ s anchor t₀ edges₀ crossings₀ ends₀ pillars₀ run₀ left₀ u₀ free blocked t edges crossings ends pillars run left u =
     (u ≤ last)
     × (length free ≡ length free₀)
     × (length blocked ≡ length blocked₀)
@@ -25,7 +25,7 @@ Inv-loop field row-h first last sizes coords margin near nf nb free₀ blocked�
     ≡ gather (pieceOf sizes coords) (margin .least) (rectangles near) (field .anchor) nf nb (heldIn t free blocked) (visit left field row-h u last))
 
 abbrev μ-loop : tie.MeasureT-loop
-μ-loop field row-h first last sizes coords margin near nf nb free₀ blocked₀ s anchor t₀ edges₀ crossings₀ ends₀ pillars₀ left₀ u₀ free blocked t edges crossings ends pillars left u = last - u
+μ-loop field row-h first last sizes coords margin near nf nb free₀ blocked₀ s anchor t₀ edges₀ crossings₀ ends₀ pillars₀ run₀ left₀ u₀ free blocked t edges crossings ends pillars run left u = last - u
 
 loop-holds : tie.Need-loop-holds Inv-loop μ-loop
 loop-holds c =
@@ -35,14 +35,14 @@ loop-holds c =
 
 gather-row-requires : tie.Need-gather-row-requires Inv-loop μ-loop
 gather-row-requires c κs =
-    let l = c .before .before .before .before .before .before .before .before .before in
+    let l = c .before .before .before .before .before .before .before .before .before .before in
     let s = l .before .before .before .before .before .before .before in
-    (s .pre .0, omega (arith, c .before .before .before .before .before .before .many .ensures), l .loop .inv .3)
+    (s .pre .0, omega (arith, c .before .before .before .before .before .before .before .many .ensures), l .loop .inv .3)
 
 returns : tie.Need-returns Inv-loop μ-loop
 returns c =
     let called = c .before .before .before .before .before in
-    let counted = called .before .before .before .before .before .before .before in
+    let counted = called .before .before .before .before .before .before .before .before in
     let l = counted .before .before .before .loop in
     let s = counted .before .before .before .before .before .before .before .before .before .before in
     let a = s .args in
@@ -62,16 +62,16 @@ returns c =
 
 add-u : tie.Need-add-u Inv-loop μ-loop
 add-u c =
-    let test = c .before .before .before .before .before .before .before .before .before .before .before .before .before .before in
+    let test = c .before .before .before .before .before .before .before .before .before .before .before .before .before .before .before in
     omega (arith, test .loop-test .taken, test .before .before .before .before .before .before .before .before .fits .last)
 
 loop-less : tie.Need-loop-less Inv-loop μ-loop
-loop-less c = omega (arith, c .before .before .before .before .before .before .before .before .before .before .before .before .before .before .loop-test .taken)
+loop-less c = omega (arith, c .before .before .before .before .before .before .before .before .before .before .before .before .before .before .before .loop-test .taken)
 
 loop-again : tie.Need-loop-again Inv-loop μ-loop
 loop-again c =
     let called = c .before .before .before .before .before in
-    let counted = called .before .before .before .before .before .before .before in
+    let counted = called .before .before .before .before .before .before .before .before in
     let l = counted .before .before .before .loop in
     let s = counted .before .before .before .before .before .before .before .before .before .before in
     let a = s .args in
@@ -95,14 +95,14 @@ loop-again c =
 
 gather-row-requires-2 : tie.Need-gather-row-requires-2 Inv-loop μ-loop
 gather-row-requires-2 c κs =
-    let l = c .before .before .before .before .before .before .before .before .before in
+    let l = c .before .before .before .before .before .before .before .before .before .before in
     let s = l .before .before .before .before .before .before .before in
-    (s .pre .0, omega (arith, c .before .before .before .before .before .before .many2 .ensures), l .loop .inv .3)
+    (s .pre .0, omega (arith, c .before .before .before .before .before .before .before .many2 .ensures), l .loop .inv .3)
 
 returns-2 : tie.Need-returns-2 Inv-loop μ-loop
 returns-2 c =
     let called = c .before .before .before .before in
-    let counted = called .before .before .before .before .before .before .before in
+    let counted = called .before .before .before .before .before .before .before .before in
     let l = counted .before .before .before .loop in
     let s = counted .before .before .before .before .before .before .before .before .before .before in
     let a = s .args in
