@@ -78,7 +78,7 @@ keepsAfter x y c ring n (suc i) = keepsAfter x y c ring n i && keeps x y c (edge
 unfoldable pub keepsRing : Float → Float → Float → Ring → Bool
 keepsRing x y c ring = cond (ltb (vertices ring) 2) true (keepsAfter x y c ring (vertices ring) (vertices ring))
 
--- ---- what is written says no less than what was to be: l with m edges, and one more or a ring's, has become r with n edges
+-- ---- l with m edges has become r with n, which say what those and one more say, or those and a ring's
 abbrev pub Added : Float → Float → Edge → ℕ → List Float → ℕ → List Float → Type 0
 Added y reach e m l n r =
     (c x : Float) → Sure c y reach → keepsEdges x y c (edgesIn r n) ≡ (keepsEdges x y c (edgesIn l m) && keeps x y c e)

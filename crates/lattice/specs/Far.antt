@@ -1,4 +1,4 @@
--- An edge that is far above, below or beside a place is not nearer to it than a clearance c: no error is estimated, since rounding keeps the order.
+-- An edge that is far above or below a place is not nearer to it than a clearance c: no error is estimated, since rounding keeps the order.
 -- Rests on the rounding laws, and on what the square from which a root is at least c says.
 use mathlib.Core.Path.{_≡_, refl, ap, subst}
 use mathlib.Core.Logic.{_⊎_, inl, inr}
@@ -234,7 +234,7 @@ module _ (c v reach a b t : Float) (R : Reaches c v reach) (B : Beyond v reach a
   square-nonneg : Nonneg (e *ᶠ e)
   square-nonneg = rw (square-plus (mul-of-finite e e (e-sized .num) (e-sized .num) (square-sized .num .fine))) (omega arith)
 
--- ---- a sum with one that is far: NaN, or from the high square on
+-- ---- NaN stays
 add-nan : (x : Float) → x +ᶠ nan ≡ nan
 unfolding add
 add-nan nan = refl
@@ -279,7 +279,7 @@ module _ (h w : Float) (n : Num w) (o : Nonneg w) (l : T (le h w)) where
   added (inf false) s = inr (rw (infinite-sum w (n .fine)) to-infinity)
   added (fin t m e) s = inr (finite-sum (fin t m e) (record { fit = s .fit; fine = tt }) (s .not-below))
 
--- ---- the law
+-- ---- the law: the sum of the squares is NaN, or from the high square on
 kept : (c z : Float) → (z ≡ nan) ⊎ T (highSquare c ≤ᶠ z) → sqrt z <ᶠ c ≡ false
 unfolding rootOf
 kept c z (inl e) = rw e (lt-nan c .1)
