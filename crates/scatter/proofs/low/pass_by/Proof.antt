@@ -36,7 +36,7 @@ abbrev μ-loop : tie.MeasureT-loop
 
 loop-holds : tie.Need-loop-holds Inv-loop μ-loop
 loop-holds c =
-    let s = c .before .before .before .before .before in
+    let s = c .before .before .before .before .before .before .before in
     let a = s .args in
     let l = a .spots .now in
     let h : a .start ≤ length (spotsOf l) = simp length-spots (omega (arith, s .pre .3, s .pre .4)) in (
@@ -52,7 +52,7 @@ loop-holds c =
 returns : tie.Need-returns Inv-loop μ-loop
 returns c =
     let l = c .before .before .loop in
-    let a = c .before .before .before .before .before .before .before .before .args in
+    let a = c .before .before .before .before .before .before .before .before .before .before .args in
     let whole = passIn (pieceOf (a .sizes .now) (a .coords .now)) (a .n) (a .margin .least) (rectangles (a .near .now)) (a .cells) (a .anchor) (a .e) (a .honor) (budget (a .n)) 0 (take (a .start) (spotsOf (a .spots .now))) in
     let e : l .inv .3 ≡ whole = sym (pass-full (pieceOf (a .sizes .now) (a .coords .now)) (a .n) (a .margin .least) (rectangles (a .near .now)) (a .cells) (a .anchor) (a .e) (a .honor) _ (l .index) (l .inv .3) (l .inv .4 ∙ c .if1 .taken)) ∙ l .inv .6 in
     (sym (l .inv .4) ∙ ap length e, l .inv .5 ∙ ap (λ (ps : List Point). written (flat ps) (a .spots .now)) e)
@@ -67,7 +67,7 @@ loop-again c =
     let cut = tested .before .before in
     let drawn = cut .before .before in
     let l = drawn .before .before .before .loop in
-    let s = drawn .before .before .before .before .before .before .before .before .before in
+    let s = drawn .before .before .before .before .before .before .before .before .before .before .before in
     let a = s .args in
     let spots₀ = a .spots .now in
     let ps = l .inv .3 in
@@ -95,7 +95,7 @@ loop-again c =
 returns-2 : tie.Need-returns-2 Inv-loop μ-loop
 returns-2 c =
     let l = c .before .loop in
-    let a = c .before .before .before .before .before .before .before .args in
+    let a = c .before .before .before .before .before .before .before .before .before .args in
     let whole = passIn (pieceOf (a .sizes .now) (a .coords .now)) (a .n) (a .margin .least) (rectangles (a .near .now)) (a .cells) (a .anchor) (a .e) (a .honor) (budget (a .n)) 0 (take (a .start) (spotsOf (a .spots .now))) in
     let e : l .inv .3 ≡ whole = sym (pass-end (pieceOf (a .sizes .now) (a .coords .now)) (a .n) (a .margin .least) (rectangles (a .near .now)) (a .cells) (a .anchor) (a .e) (a .honor) _ (l .index) (l .inv .3) (c .loop-test .left)) ∙ l .inv .6 in
     (sym (l .inv .4) ∙ ap length e, l .inv .5 ∙ ap (λ (ps : List Point). written (flat ps) (a .spots .now)) e)
