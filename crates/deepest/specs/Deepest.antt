@@ -60,8 +60,11 @@ pub data Grid : Type 0 where
   waiting : List Cell → Grid
   over : Grid
 
+abbrev pub cellOf : Float → Float → Float → ℕ → ℕ → Cell
+cellOf x y d halvings entry = record { x = x; y = y; d = d; halvings = halvings; entry = entry }
+
 unfoldable pub makeCell : Piece → Float → Float → ℕ → ℕ → Cell
-makeCell piece x y halvings entry = record { x = x; y = y; d = signedClearance x y piece; halvings = halvings; entry = entry }
+makeCell piece x y halvings entry = cellOf x y (signedClearance x y piece) halvings entry
 
 -- cell.ub - best.d <= precision ends a cell, and so do 21 halvings
 unfoldable pub splitsAt : List Float → Float → Cell → Best → Bool

@@ -10,11 +10,12 @@ use lib.ListN.{length}
 use lib.Ieee.{Float}
 use Rattle.float.specs.Ops.{_+ᶠ_, _-ᶠ_}
 use Rattle.regions.specs.Ring.{Piece}
+use Rattle.regions.specs.Clearance.{signedClearance}
 use Rattle.deepest.specs.Order.{halfAt}
-use Rattle.deepest.specs.Cells.{cellAt, Tagged}
+use Rattle.deepest.specs.Cells.{cellAt}
 use Rattle.deepest.specs.Queue.{total, Queue, Pushed}
 use Rattle.deepest.specs.Match.{Match, sum-enter, match-push}
-use Rattle.deepest.specs.Deepest.{enter, nodes, heft, sumOver, betterOf, answerOf, splitsAt, makeCell, enterFour, turns}
+use Rattle.deepest.specs.Deepest.{enter, nodes, heft, sumOver, betterOf, answerOf, splitsAt, cellOf, makeCell, enterFour, turns}
 use Rattle.deepest.specs.declared.queue.Cell.{Cell}
 use Rattle.deepest.specs.declared.search.Best.{Best}
 use Rattle.deepest.specs.declared.search.Deepest.{Deepest}
@@ -28,15 +29,16 @@ pub record Entered (piece : Piece) (halves l : List Float) (m : ℕ) (x y : Floa
   pub match : (q : List Cell) → Match halves l m q n → Match halves l′ (m + 1) (enter halves (makeCell piece x y k n) q) (n + 1)
 
 pub entered :
-    (piece : Piece) (halves l : List Float) (m : ℕ) (x y : Float) (k n : ℕ) (c : Cell) (l′ : List Float)
-    → c ≡ makeCell piece x y k n → Pushed halves l m c l′ → Entered piece halves l m x y k n l′
+    (piece : Piece) (halves l : List Float) (m : ℕ) (x y d : Float) (k n : ℕ) (l′ : List Float)
+    → d ≡ signedClearance x y piece → Pushed halves l m (cellOf x y d k n) l′ → Entered piece halves l m x y k n l′
 unfolding makeCell
-entered piece halves l m x y k n c l′ e p =
+entered piece halves l m x y d k n l′ e p =
+    let f : cellOf x y d k n ≡ makeCell piece x y k n = ap (λ (z : Float). cellOf x y z k n) e in
     record {
       long = p .long;
       queue = p .queue;
-      weight = p .bag heft ∙ ap (λ (a : Cell). total heft (cellAt l) m + heft a) e;
-      match = λ q w. subst (λ (a : Cell). Match halves l′ (m + 1) (enter halves a q) (n + 1)) e (match-push halves l m q n w c l′ p (ap (λ (a : Cell). a .entry) e));
+      weight = p .bag heft;
+      match = λ q w. subst (λ (a : Cell). Match halves l′ (m + 1) (enter halves a q) (n + 1)) f (match-push halves l m q n w (cellOf x y d k n) l′ p refl);
     }
 
 -- what `push_four` does
@@ -161,7 +163,3 @@ quartered piece halves l m c n nh l₁ l₂ l₃ l₄ h a b d e =
 
     upTo : (q : List Cell) (i j : ℕ) → i ≡ j → Match halves l₄ (m + 1 + 1 + 1 + 1) (quarters q) i → Match halves l₄ (m + 1 + 1 + 1 + 1) (quarters q) j
     upTo q i j p w = subst (λ (k : ℕ). Match halves l₄ (m + 1 + 1 + 1 + 1) (quarters q) k) p w
-
-pub made-tagged : (piece : Piece) (x y : Float) (k n : ℕ) → k < 22 → n < 4611686018427387904 → Tagged (makeCell piece x y k n)
-unfolding makeCell
-made-tagged piece x y k n a b = record { few = a; early = b }

@@ -10,7 +10,7 @@ ghost use Rattle.deepest.specs.Cells.{cellAt};
 ghost use Rattle.deepest.specs.Queue.{Queue, total};
 ghost use Rattle.deepest.specs.Plant.{Seeds};
 ghost use Rattle.deepest.specs.Turns.{Entered, Quartered, Explored};
-ghost use Rattle.deepest.specs.Deepest.{heft, makeCell, betterOf, splitsAt, answerOf, nextCorner, firstCorner, enterFour, gridFrom, searchIn, deepestPoint, deeperOf};
+ghost use Rattle.deepest.specs.Deepest.{heft, betterOf, splitsAt, answerOf, nextCorner, firstCorner, enterFour, gridFrom, searchIn, deepestPoint, deeperOf};
 use crate::queue::Cell;
 use crate::queue::bound;
 use crate::queue::half;
@@ -19,6 +19,8 @@ use crate::queue::push;
 use glyphs::bounds::Extents;
 use glyphs::bounds::ring_extents;
 use regions::clearance::signed_clearance;
+use regions::four::Four;
+use regions::four::four_clearances;
 use regions::ring::ring_at;
 
 // A deepest point with its clearance, or none; or more cells waited than there is room for.
@@ -48,20 +50,6 @@ fn halves_of(h0: f64) -> [f64; 22]
         k += 1;
     }
     halves
-}
-
-fn make_cell(x: f64, y: f64, halvings: u64, entry: u64, sizes: &[usize], coords: &[f64]) -> Cell
-    requires { ⌜ (0 < length (now sizes)) × (sum (now sizes) * 2 ≤ length (now coords)) ⌝ }
-    ensures { λ r. ⌜ r ≡ makeCell (pieceOf (now (sizes .entry)) (now (coords .entry))) x y halvings entry ⌝ }
-{
-    let d = signed_clearance(x, y, sizes, coords);
-    Cell {
-        x,
-        y,
-        d,
-        halvings,
-        entry,
-    }
 }
 
 fn better(best: Best, cell: Cell) -> Best
@@ -111,7 +99,14 @@ fn enter_cell(
     requires { ⌜ (0 < length (now sizes)) × (sum (now sizes) * 2 ≤ length (now coords)) × Queue (now halves) (now cells) m × (m * 5 + 4 < length (now cells)) × (halvings < 22) × (entry < 4611686018427387904) ⌝ }
     ensures { λ _. ⌜ Entered (pieceOf (now (sizes .entry)) (now (coords .entry))) (now (halves .entry)) (now (cells .entry)) m x y halvings entry (now (cells .exit)) ⌝ }
 {
-    let c = make_cell(x, y, halvings, entry, sizes, coords);
+    let d = signed_clearance(x, y, sizes, coords);
+    let c = Cell {
+        x,
+        y,
+        d,
+        halvings,
+        entry,
+    };
     push(&mut cells[..], m, halves, c);
 }
 
@@ -130,55 +125,58 @@ fn push_four(
 {
     let k = cell.halvings + 1;
     let nh = half(halves, k);
-    let x = cell.x;
-    let y = cell.y;
+    let left = cell.x - nh;
+    let right = cell.x + nh;
+    let low = cell.y - nh;
+    let high = cell.y + nh;
+    let xs = Four {
+        a: left,
+        b: right,
+        c: left,
+        d: right,
+    };
+    let ys = Four {
+        a: low,
+        b: low,
+        c: high,
+        d: high,
+    };
+    let ds = four_clearances(xs, ys, sizes, coords);
+    let a = Cell {
+        x: left,
+        y: low,
+        d: ds.a,
+        halvings: k,
+        entry,
+    };
+    let b = Cell {
+        x: right,
+        y: low,
+        d: ds.b,
+        halvings: k,
+        entry: entry + 1,
+    };
+    let c = Cell {
+        x: left,
+        y: high,
+        d: ds.c,
+        halvings: k,
+        entry: entry + 2,
+    };
+    let d = Cell {
+        x: right,
+        y: high,
+        d: ds.d,
+        halvings: k,
+        entry: entry + 3,
+    };
     let m1 = m + 1;
     let m2 = m1 + 1;
     let m3 = m2 + 1;
-    enter_cell(
-        &mut cells[..],
-        m,
-        halves,
-        x - nh,
-        y - nh,
-        k,
-        entry,
-        sizes,
-        coords,
-    );
-    enter_cell(
-        &mut cells[..],
-        m1,
-        halves,
-        x + nh,
-        y - nh,
-        k,
-        entry + 1,
-        sizes,
-        coords,
-    );
-    enter_cell(
-        &mut cells[..],
-        m2,
-        halves,
-        x - nh,
-        y + nh,
-        k,
-        entry + 2,
-        sizes,
-        coords,
-    );
-    enter_cell(
-        &mut cells[..],
-        m3,
-        halves,
-        x + nh,
-        y + nh,
-        k,
-        entry + 3,
-        sizes,
-        coords,
-    );
+    push(&mut cells[..], m, halves, a);
+    push(&mut cells[..], m1, halves, b);
+    push(&mut cells[..], m2, halves, c);
+    push(&mut cells[..], m3, halves, d);
 }
 
 // The search, with `start` cells waiting.

@@ -10,3 +10,4 @@ pub mod Pillars
 pub mod Facts
 pub mod Sizes
 pub mod Sides
+pub mod Four

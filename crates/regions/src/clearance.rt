@@ -34,13 +34,20 @@ pub fn edge_square(px: f64, py: f64, ax: f64, ay: f64, bx: f64, by: f64) -> f64
     ex * ex + ey * ey
 }
 
-pub fn lesser(d: f64, best: f64) -> f64
+fn lesser(d: f64, best: f64) -> f64
     ensures { λ r. ⌜ r ≡ closer d best ⌝ }
 {
     if d < best {
         return d;
     }
     best
+}
+
+// The lesser of `best` and the square of the distance to the edge from a to b.
+pub fn closer_edge(px: f64, py: f64, best: f64, ax: f64, ay: f64, bx: f64, by: f64) -> f64
+    ensures { λ r. ⌜ r ≡ closer (edgeSquare px py ax ay bx by) best ⌝ }
+{
+    lesser(edge_square(px, py, ax, ay, bx, by), best)
 }
 
 // The least of `start` and the squares of the distances to a ring's edges.
@@ -55,9 +62,14 @@ fn ring_square(px: f64, py: f64, start: f64, ring: &[f64]) -> f64
     let mut i = 0;
     while i < n {
         let k = after(n, i);
-        best = lesser(
-            edge_square(px, py, vx(ring, i), vy(ring, i), vx(ring, k), vy(ring, k)),
+        best = closer_edge(
+            px,
+            py,
             best,
+            vx(ring, i),
+            vy(ring, i),
+            vx(ring, k),
+            vy(ring, k),
         );
         i += 1;
     }

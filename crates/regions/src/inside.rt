@@ -8,16 +8,13 @@ ghost use Rattle.regions.specs.Sides.{onOneSide};
 use glyphs::points::vx;
 use glyphs::points::vy;
 
-// Whether the ray from (x, y) crosses the edge between the vertices i and j.
+// Whether the ray from (x, y) crosses the edge between the vertices i and j. There is no branch inside.
 fn crosses(x: f64, y: f64, xi: f64, yi: f64, xj: f64, yj: f64) -> bool
     ensures { λ r. ⌜ r ≡ intersect x y xi yi xj yj ⌝ }
 {
     let a = yi > y;
     let b = yj > y;
-    if a == b {
-        return false;
-    }
-    x < (xj - xi) * (y - yi) / (yj - yi + 2.220446049250313e-16) + xi
+    (a != b) & (x < (xj - xi) * (y - yi) / (yj - yi + 2.220446049250313e-16) + xi)
 }
 
 // `inside`, turned over where an edge is crossed.
@@ -28,6 +25,13 @@ fn turned(inside: bool, crossed: bool) -> bool
         return !inside;
     }
     inside
+}
+
+// `inside`, turned over where the edge between the vertices i and j is crossed.
+pub fn turned_by(x: f64, y: f64, inside: bool, xi: f64, yi: f64, xj: f64, yj: f64) -> bool
+    ensures { λ r. ⌜ r ≡ flip (intersect x y xi yi xj yj) inside ⌝ }
+{
+    turned(inside, crosses(x, y, xi, yi, xj, yj))
 }
 
 // Whether the nine vertices from vertex `i` on are all above y, or all not, so that no edge between two of them is
@@ -57,8 +61,7 @@ fn turned_from(x: f64, y: f64, v: &[f64], i: usize, e: usize, inside: bool) -> b
     let mut k = i;
     while k < e {
         let j = k - 1;
-        let crossed = crosses(x, y, vx(v, k), vy(v, k), vx(v, j), vy(v, j));
-        turned_over = turned(turned_over, crossed);
+        turned_over = turned_by(x, y, turned_over, vx(v, k), vy(v, k), vx(v, j), vy(v, j));
         k += 1;
     }
     turned_over

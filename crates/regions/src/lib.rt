@@ -2,6 +2,7 @@
 // its rings in vertices, the outer ring first, and their coordinates, x and y in turn, ring after ring.
 pub mod area;
 pub mod clearance;
+pub mod four;
 pub mod inside;
 pub mod margin;
 pub mod pillars;

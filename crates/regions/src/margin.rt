@@ -7,9 +7,8 @@ ghost use Rattle.float.specs.Order.{sqrt};
 ghost use Rattle.regions.specs.Ring.{sum, pieceOf};
 ghost use Rattle.regions.specs.Clearance.{signedClearance};
 ghost use Rattle.regions.specs.Margin.{lowSquare, highSquare, marginOf, untilOfRing, untilOfRings};
-use crate::clearance::edge_square;
+use crate::clearance::closer_edge;
 use crate::clearance::inside_piece;
-use crate::clearance::lesser;
 use crate::clearance::signed_clearance;
 use crate::ring::after;
 use crate::ring::ring_at;
@@ -73,9 +72,14 @@ fn ring_square_until(px: f64, py: f64, low: f64, start: f64, ring: &[f64]) -> f6
             return best;
         }
         let k = after(n, i);
-        best = lesser(
-            edge_square(px, py, vx(ring, i), vy(ring, i), vx(ring, k), vy(ring, k)),
+        best = closer_edge(
+            px,
+            py,
             best,
+            vx(ring, i),
+            vy(ring, i),
+            vx(ring, k),
+            vy(ring, k),
         );
         i += 1;
     }

@@ -2,7 +2,7 @@
 ghost use mathlib.Core.Path.{_≡_};
 ghost use Prim.Native.Nat.{ℕ, _+_, _*_, _<_, _≤_};
 ghost use lib.ListN.{length};
-ghost use Rattle.regions.specs.Ring.{next, part};
+ghost use Rattle.regions.specs.Ring.{next, prev, part};
 
 // The vertex after vertex `i` of `n`.
 pub fn after(n: usize, i: usize) -> usize
@@ -14,6 +14,17 @@ pub fn after(n: usize, i: usize) -> usize
         return k;
     }
     0
+}
+
+// The vertex before vertex `i` of `n`.
+pub fn before(n: usize, i: usize) -> usize
+    requires { ⌜ i < n ⌝ }
+    ensures { λ r. ⌜ (r ≡ prev n i) × (r < n) ⌝ }
+{
+    if i == 0 {
+        return n - 1;
+    }
+    i - 1
 }
 
 // The coordinates of the `n` vertices from vertex `at` on.

@@ -17,6 +17,8 @@ use glyphs::spots::spot;
 use glyphs::spots::spots_after;
 use glyphs::spots::spots_before;
 use regions::clearance::signed_clearance;
+use regions::four::Four;
+use regions::four::four_clearances;
 use regions::margin::Margin;
 use regions::pillars::clears_obstacles;
 
@@ -65,12 +67,21 @@ impl Field {
         ensures { λ r. ⌜ r ≡ clearanceGradient self (pieceOf (now (sizes .entry)) (now (coords .entry))) p ⌝ }
     {
         let h = self.probe;
-        let right = signed_clearance(p.x + h, p.y, sizes, coords);
-        let left = signed_clearance(p.x - h, p.y, sizes, coords);
-        let above = signed_clearance(p.x, p.y + h, sizes, coords);
-        let below = signed_clearance(p.x, p.y - h, sizes, coords);
-        let gx = right - left;
-        let gy = above - below;
+        let xs = Four {
+            a: p.x + h,
+            b: p.x - h,
+            c: p.x,
+            d: p.x,
+        };
+        let ys = Four {
+            a: p.y,
+            b: p.y,
+            c: p.y + h,
+            d: p.y - h,
+        };
+        let around = four_clearances(xs, ys, sizes, coords);
+        let gx = around.a - around.b;
+        let gy = around.c - around.d;
         let norm = float::hypot(gx, gy);
         if norm > 1e-12 {
             return Gradient::Toward(gx / norm, gy / norm);

@@ -19,8 +19,8 @@ abbrev μ-loop : tie.MeasureT-loop
 
 loop-again : tie.Need-loop-again Inv-loop μ-loop
 loop-again c =
-    let a = c .before .before .before .before .before .before .before .before .before .args in
-    let k = c .before .before .before .before .before .before .before .loop .k in
+    let a = c .before .before .before .before .before .before .before .before .args in
+    let k = c .before .before .before .before .before .before .loop .k in
     (search needs, search needs, search needs, cc (next-turn (a .x) (a .y) (a .v .now) (length (a .v .now) / 2) k (search needs)))
 
 returns : tie.Need-returns Inv-loop μ-loop
@@ -32,7 +32,6 @@ turned-from-spec =
     (tie.spec Inv-loop μ-loop
     (λ c. search needs)
     (λ c. search needs)
-    (λ c κs. search needs)
     (λ c κs. search needs)
     (λ c κs. search needs)
     (λ c κs. search needs)

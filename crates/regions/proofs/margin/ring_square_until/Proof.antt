@@ -25,11 +25,13 @@ returns-2 : tie.Need-returns-2 Inv-loop μ-loop
 returns-2 c = rw (c .before .before .loop .inv .2, until-stop _ _ _ _ _ _ _ _ (c .if2 .taken))
 
 loop-again : tie.Need-loop-again Inv-loop μ-loop
-loop-again c = (
-  search needs,
-  search needs,
-  cc (until-step (c .before .before .before .before .before .before .before .before .before .before .before .before .args .px) (c .before .before .before .before .before .before .before .before .before .before .before .before .args .py) (c .before .before .before .before .before .before .before .before .before .before .before .before .args .low) (c .before .before .before .before .before .before .before .before .before .loop .best) (c .before .before .before .before .before .before .before .before .before .before .before .before .args .ring .now) _ _ (c .before .before .before .before .before .before .before .before .loop-test .taken) (c .before .before .before .before .before .before .before .if2 .left)),
-)
+loop-again c =
+    let l = c .before .before .before .before .before .before .before .before in
+    let a = l .before .before .before .args in (
+      search needs,
+      search needs,
+      cc (until-step (a .px) (a .py) (a .low) (l .loop .best) (a .ring .now) _ _ (c .before .before .before .before .before .before .before .loop-test .taken) (c .before .before .before .before .before .before .if2 .left)),
+    )
 
 returns-3 : tie.Need-returns-3 Inv-loop μ-loop
 returns-3 c = rw (c .before .loop .inv .2, until-end _ _ _ _ _ _ _ (c .loop-test .left))
@@ -42,7 +44,6 @@ ring-square-until-spec =
     (λ c. rw (lt-ltb _ _ (c .if1 .taken)))
     loop-holds
     returns-2
-    (λ c κs. search needs)
     (λ c κs. search needs)
     (λ c κs. search needs)
     (λ c κs. search needs)
