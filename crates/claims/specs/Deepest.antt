@@ -23,7 +23,7 @@ use Rattle.regions.specs.Clearance.{signedClearance}
 use Rattle.format.specs.Known.{All, PieceKnown}
 use Rattle.deepest.specs.declared.queue.Cell.{Cell}
 use Rattle.deepest.specs.declared.search.Best.{Best}
-use Rattle.deepest.specs.declared.search.Corner.{Corner}
+use Rattle.deepest.specs.declared.seeds.Corner.{Corner}
 use Rattle.deepest.specs.declared.search.Deepest.{Deepest}
 use Rattle.deepest.specs.declared.search.Deepest.the-variants.{Found, Nothing, Full}
 use Rattle.deepest.specs.Order.{halvesFrom, halfAt, leaves}

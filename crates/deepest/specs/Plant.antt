@@ -18,12 +18,12 @@ use Rattle.deepest.specs.Match.{Match, match-start, match-length}
 use Rattle.deepest.specs.Deepest.{enter, nodes, heft, makeCell, nextCorner, firstCorner, Grid, waiting, over, gridFrom, finish, centreOf, searchIn}
 use Rattle.deepest.specs.Turns.{Entered, Explored}
 use Rattle.deepest.specs.declared.queue.Cell.{Cell}
-use Rattle.deepest.specs.declared.search.Corner.{Corner}
+use Rattle.deepest.specs.declared.seeds.Corner.{Corner}
 use Rattle.deepest.specs.declared.search.Best.{Best}
 use Rattle.deepest.specs.declared.search.Deepest.{Deepest}
 use Rattle.deepest.specs.declared.search.Deepest.the-variants.{Full}
-use Rattle.deepest.specs.declared.search.Seeded.{Seeded}
-use Rattle.deepest.specs.declared.search.Seeded.the-variants.{Waiting, Crowded}
+use Rattle.deepest.specs.declared.seeds.Seeded.{Seeded}
+use Rattle.deepest.specs.declared.seeds.Seeded.the-variants.{Waiting, Crowded}
 
 pub nodes-21 : nodes 21 ≡ 5864062014805
 unfolding nodes

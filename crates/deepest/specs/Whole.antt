@@ -32,7 +32,7 @@ use Rattle.deepest.specs.Halvings.{1/1024ᶠ}
 use Rattle.deepest.specs.Unlimited.{turnsFree, half-sized, Measured, unlimited}
 use Rattle.deepest.specs.declared.queue.Cell.{Cell}
 use Rattle.deepest.specs.declared.search.Best.{Best}
-use Rattle.deepest.specs.declared.search.Corner.{Corner}
+use Rattle.deepest.specs.declared.seeds.Corner.{Corner}
 use Rattle.deepest.specs.declared.search.Deepest.{Deepest}
 use Rattle.deepest.specs.declared.search.Deepest.the-variants.{Nothing, Full}
 

@@ -9,8 +9,8 @@ use Rattle.regions.specs.Ring.{pieceOf}
 use Rattle.deepest.specs.Order.{halfAt}
 use Rattle.deepest.specs.Deepest.{firstCorner}
 use Rattle.deepest.specs.Plant.{Planting, plant-start, plant-over, plant-step, plant-end}
-use Rattle.deepest.proofs.search.seed.Statement.{statement}
-use Rattle.deepest.proofs.search.seed.Tie as tie
+use Rattle.deepest.proofs.seeds.seed.Statement.{statement}
+use Rattle.deepest.proofs.seeds.seed.Tie as tie
 
 abbrev Inv-loop : tie.InvT-loop
 Inv-loop cells₀ halves e side sizes coords room h0 corner₀ m₀ cells corner m =

@@ -2,8 +2,8 @@
 -- Rests on the contracts of both.
 use borrow.Author.Needs.{needs}
 use Rattle.deepest.specs.Turns.{entered}
-use Rattle.deepest.proofs.search.enter_cell.Statement.{statement}
-use Rattle.deepest.proofs.search.enter_cell.Tie as tie
+use Rattle.deepest.proofs.seeds.enter_cell.Statement.{statement}
+use Rattle.deepest.proofs.seeds.enter_cell.Tie as tie
 
 push-requires : tie.Need-push-requires
 push-requires c κs =
