@@ -1,6 +1,6 @@
-//! Low discrepancy, the random packer without and with its relaxation, and the relaxation alone, on one zone, beside
-//! the Rust original.
-use bench::packing::Zone;
+//! The lattices and low discrepancy whole, the random packer without and with its relaxation, and the relaxation alone,
+//! on one zone, beside the Rust original.
+use bench::packing::{Packer, Zone};
 use bench::{Bits, line, time};
 use oracle::geometry::primitives::Point;
 use oracle::plotting::glyphs::GlyphArrangement;
@@ -45,7 +45,14 @@ macro_rules! packers {
         }
     };
 }
-packers!(probe_pack_low_discrepancy, probe_pack_random);
+packers!(probe_pack_uniform, probe_pack_rectangular, probe_pack_low_discrepancy, probe_pack_random);
+
+/// The arrangements that draw nothing at random.
+const STEADY: [(&str, GlyphArrangement, Packer); 3] = [
+    ("uniform", GlyphArrangement::Uniform, probe_pack_uniform),
+    ("rectangular", GlyphArrangement::Rectangular, probe_pack_rectangular),
+    ("low discrepancy", GlyphArrangement::LowDiscrepancy, probe_pack_low_discrepancy),
+];
 
 const ATTEMPTS: u32 = 200;
 
@@ -53,33 +60,36 @@ fn flat(spots: &[Point]) -> Vec<f64> {
     spots.iter().flat_map(|p| [p.x(), p.y()]).collect()
 }
 
-fn low_discrepancy(quota: usize, edges: usize, bits: &mut Bits) {
+/// A whole packing of each steady arrangement: strict, and spread where it is a lattice.
+fn steady(quota: usize, edges: usize, bits: &mut Bits) {
     let zone = Zone::star(edges, bits);
     // Parts of the area that the marks cover.
     let covers: Vec<f64> = (0..6).map(|_| 0.25 + 0.1 * bits.unit()).collect();
     let radius = |cover: f64| (cover * zone.piece.area() / (PI * quota as f64)).sqrt();
-    let rust = |cover: f64| {
-        let packing = Packing {
-            arrangement: GlyphArrangement::LowDiscrepancy,
-            quota,
-            precision: 0.5,
-            attempts: ATTEMPTS,
-            radius: radius(cover),
-            gap: 0.1,
-            boundary_gap: 0.1,
-            obstacles: &[],
-            spread: true,
-            strict: true,
-            state: 0,
+    for (name, arrangement, packer) in STEADY {
+        let rust = |cover: f64| {
+            let packing = Packing {
+                arrangement,
+                quota,
+                precision: 0.5,
+                attempts: ATTEMPTS,
+                radius: radius(cover),
+                gap: 0.1,
+                boundary_gap: 0.1,
+                obstacles: &[],
+                spread: true,
+                strict: true,
+                state: 0,
+            };
+            flat(&layers::pack_piece(&zone.piece, &packing).0)
         };
-        flat(&layers::pack_piece(&zone.piece, &packing).0)
-    };
-    let ours = |cover: f64| {
-        let settings = [radius(cover), 0.1, 0.1, 0.5];
-        zone.pack(probe_pack_low_discrepancy, settings, quota, ATTEMPTS, true, true, 0).0
-    };
-    assert!(covers.iter().all(|&c| rust(c) == ours(c)));
-    line(&format!("low discrepancy, {quota} marks, {edges} edges"), time(&covers, rust), time(&covers, ours));
+        let ours = |cover: f64| {
+            let settings = [radius(cover), 0.1, 0.1, 0.5];
+            zone.pack(packer, settings, quota, ATTEMPTS, true, true, 0).0
+        };
+        assert!(covers.iter().all(|&c| rust(c) == ours(c)));
+        line(&format!("{name}, {quota} marks, {edges} edges"), time(&covers, rust), time(&covers, ours));
+    }
 }
 
 fn random(quota: usize, bits: &mut Bits) {
@@ -147,8 +157,8 @@ fn main() {
     let mut bits = Bits(0x9e37_79b9_7f4a_7c15);
     println!("{:<56} {:>12} {:>12} {:>7}", "one zone", "Rust", "ours", "times");
     for quota in [100, 500, 1_100, 2_000] {
-        low_discrepancy(quota, 8, &mut bits);
-        low_discrepancy(quota, 64, &mut bits);
+        steady(quota, 8, &mut bits);
+        steady(quota, 64, &mut bits);
         random(quota, &mut bits);
     }
 }
