@@ -1,8 +1,10 @@
-//! What the programs share: random bits, a ring, the lent slices of a whole job, and the time of a call.
+//! What the programs share: random bits, a ring, a whole job over lent slices, and the time of a call.
+mod beside;
 pub mod floors;
 mod lent;
 pub mod packing;
 
+pub use beside::measure;
 pub use lent::Lent;
 
 use std::f64::consts::TAU;
@@ -54,7 +56,7 @@ pub fn time<T: Copy, R>(values: &[T], f: impl Fn(T) -> R) -> f64 {
 /// Nanoseconds a call, the best of several within a second or so.
 pub fn best(mut call: impl FnMut()) -> f64 {
     let (mut best, start) = (f64::INFINITY, Instant::now());
-    while best == f64::INFINITY || start.elapsed() < Duration::from_millis(600) {
+    while best == f64::INFINITY || start.elapsed() < Duration::from_millis(500) {
         let turn = Instant::now();
         call();
         best = best.min(turn.elapsed().as_secs_f64() * 1e9);
