@@ -1,5 +1,6 @@
 //! Floors to measure, as job bytes.
 use std::f64::consts::TAU;
+use std::ops::Range;
 
 type Ring = Vec<[f64; 2]>;
 
@@ -13,8 +14,11 @@ fn number(unit: f64) -> [u8; 4] {
     ((unit * 1024.0).round() as i32).to_be_bytes()
 }
 
-/// Where a job has its precision, in 1/1024.
-pub const PRECISION: std::ops::Range<usize> = 21..25;
+/// Where a job has its gap, its boundary gap and its precision, in 1/1024, and its attempts.
+pub const GAP: Range<usize> = 12..16;
+pub const BOUNDARY_GAP: Range<usize> = 17..21;
+pub const PRECISION: Range<usize> = 21..25;
+pub const ATTEMPTS: Range<usize> = 25..29;
 
 /// A job with an automatic radius, BestEffort, gap 1/8, boundary gap 1/4 and precision 1/4.
 pub fn job(pillars: &[[f64; 4]], zones: &[Zone]) -> Vec<u8> {
@@ -84,6 +88,18 @@ pub fn comb(teeth: usize) -> Ring {
         })
         .collect();
     ring.extend([[4.0 * teeth as f64, 6.0], [4.0 * teeth as f64, 0.0], [0.0, 0.0]]);
+    ring
+}
+
+/// A line of so many vertices, walked up and down again and again.
+pub fn upright(n: usize, height: f64) -> Ring {
+    (0..n).map(|k| [0.0, height * (k % 2) as f64]).collect()
+}
+
+/// A rectangle from (0, 0) of so many vertices, an even number: its left side is such a line.
+pub fn retraced(n: usize, width: f64, height: f64) -> Ring {
+    let mut ring = upright(n - 2, height);
+    ring.extend([[width, height], [width, 0.0]]);
     ring
 }
 
