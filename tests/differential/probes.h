@@ -25,6 +25,9 @@
 /* regions.rs signed_clearance. */
 double probe_signed_clearance(PIECE, double x, double y);
 
+/* The same of four places, x and y in turn, at once. */
+void probe_four_clearances(PIECE, const double places[8], double found[4]);
+
 /* Whether that is at least c; measured by bench/, and compared there. */
 _Bool probe_clearance_at_least(PIECE, double x, double y, double c);
 

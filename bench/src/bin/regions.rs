@@ -12,6 +12,14 @@ unsafe extern "C" {
         x: f64,
         y: f64,
     ) -> f64;
+    fn probe_four_clearances(
+        sizes: *const u64,
+        rings: usize,
+        coords: *const f64,
+        floats: usize,
+        places: *const f64,
+        found: *mut f64,
+    );
     fn probe_clearance_at_least(
         sizes: *const u64,
         rings: usize,
@@ -56,6 +64,25 @@ fn main() {
             probe_signed_clearance(sizes.as_ptr(), 1, coords.as_ptr(), coords.len(), x, y)
         };
         line(&format!("signed, {n} edges"), time(&places, rust), time(&places, ours));
+        let fours: Vec<[f64; 8]> =
+            places.chunks_exact(4).map(|p| std::array::from_fn(|k| p[k / 2][k % 2])).collect();
+        let four = |p: [f64; 8]| {
+            let mut found = [0.0; 4];
+            unsafe {
+                probe_four_clearances(
+                    sizes.as_ptr(),
+                    1,
+                    coords.as_ptr(),
+                    coords.len(),
+                    p.as_ptr(),
+                    found.as_mut_ptr(),
+                );
+            }
+            found
+        };
+        let rust_four = |p: [f64; 8]| [0, 1, 2, 3].map(|k| rust([p[2 * k], p[2 * k + 1]]));
+        assert!(fours.iter().all(|&p| four(p) == rust_four(p)));
+        line(&format!("signed, four at once, {n} edges"), time(&fours, rust_four) / 4.0, time(&fours, four) / 4.0);
         let c = 0.5;
         let at_least = |[x, y]: [f64; 2]| unsafe {
             probe_clearance_at_least(sizes.as_ptr(), 1, coords.as_ptr(), coords.len(), x, y, c)

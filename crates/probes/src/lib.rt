@@ -12,6 +12,7 @@ ghost use Rattle.regions.specs.Inside.{pointInPolygon};
 ghost use Rattle.relax.specs.Scatter.{source, relaxScatter};
 use deepest::search::Deepest;
 use glyphs::bounds::Bounds;
+use regions::four::Four;
 
 mod packers;
 
@@ -21,6 +22,34 @@ pub extern "C" fn probe_signed_clearance(sizes: &[usize], coords: &[f64], x: f64
     ensures { λ r. ⌜ r ≡ signedClearance x y (pieceOf (now (sizes .entry)) (now (coords .entry))) ⌝ }
 {
     regions::clearance::signed_clearance(x, y, sizes, coords)
+}
+
+#[no_mangle]
+pub extern "C" fn probe_four_clearances(
+    sizes: &[usize],
+    coords: &[f64],
+    places: &[f64; 8],
+    found: &mut [f64; 4],
+)
+    requires { ⌜ (0 < length (now sizes)) × (sum (now sizes) * 2 ≤ length (now coords)) ⌝ }
+{
+    let xs = Four {
+        a: places[0],
+        b: places[2],
+        c: places[4],
+        d: places[6],
+    };
+    let ys = Four {
+        a: places[1],
+        b: places[3],
+        c: places[5],
+        d: places[7],
+    };
+    let four = regions::four::four_clearances(xs, ys, sizes, coords);
+    found[0] = four.a;
+    found[1] = four.b;
+    found[2] = four.c;
+    found[3] = four.d;
 }
 
 #[no_mangle]

@@ -19,6 +19,7 @@ const LIBRARIES: [(&str, &str, &[&str]); 2] = [
         "libprobes.a",
         &[
             "probe_signed_clearance",
+            "probe_four_clearances",
             "probe_point_in_polygon",
             "probe_area",
             "probe_ring_bounds",

@@ -11,8 +11,9 @@ use harness::comparison::{self, Comparison};
 use harness::where_present;
 
 fn main() -> ExitCode {
-    let comparisons: [Comparison; 13] = [
+    let comparisons: [Comparison; 14] = [
         ("signed-clearance", where_present!(has_probe_signed_clearance, places::signed_clearance)),
+        ("four-clearances", where_present!(has_probe_four_clearances, places::four_clearances)),
         ("inside", where_present!(has_probe_point_in_polygon, places::inside)),
         ("area", where_present!(has_probe_area, places::area)),
         ("bounds", where_present!(has_probe_ring_bounds, places::bounds)),

@@ -60,6 +60,39 @@ pub fn signed_clearance(run: &Run) -> Tally {
     })
 }
 
+#[cfg(has_probe_four_clearances)]
+pub fn four_clearances(run: &Run) -> Tally {
+    unsafe extern "C" {
+        fn probe_four_clearances(
+            ring_sizes: *const u64,
+            rings: usize,
+            coords: *const f64,
+            floats: usize,
+            places: *const f64,
+            found: *mut f64,
+        );
+    }
+    over_pieces("four-clearances", run, |_, input, rng, judge| {
+        for four in input.places(rng).chunks_exact(4) {
+            let (sizes, coords, places) = (&input.ring_sizes, &input.coords, four.as_flattened());
+            let mut given = [MARK; 4];
+            unsafe {
+                probe_four_clearances(
+                    sizes.as_ptr(),
+                    sizes.len(),
+                    coords.as_ptr(),
+                    coords.len(),
+                    places.as_ptr(),
+                    given.as_mut_ptr(),
+                );
+            }
+            let wanted: Vec<f64> =
+                four.iter().map(|&[x, y]| layers::signed_clearance(x, y, &input.piece)).collect();
+            judge(same_floats(&given, &wanted));
+        }
+    })
+}
+
 #[cfg(has_probe_point_in_polygon)]
 pub fn inside(run: &Run) -> Tally {
     unsafe extern "C" {
