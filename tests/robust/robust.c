@@ -4,6 +4,7 @@
 #include "lent.h"
 #include "marks.h"
 #include "mutate.h"
+#include "stack.h"
 #include <inttypes.h>
 #include <signal.h>
 #include <stdio.h>
@@ -161,23 +162,33 @@ static int try_one(uint64_t n, unsigned seconds) {
     return 1;
 }
 
+static uint64_t total;
+static unsigned seconds;
+
+/* All jobs; whether all is right. */
+static int try_all(void) {
+    catch_signals();
+    for (uint64_t n = 0; n < total; n++)
+        if (!try_one(n, seconds)) return 0;
+    return 1;
+}
+
 int main(int argc, char **argv) {
     if (argc < 6) {
         fprintf(stderr, "robust JOBS SEED SECONDS FOLDER FILE..\n");
         return 2;
     }
-    uint64_t total = strtoull(argv[1], NULL, 10);
-    unsigned seconds = (unsigned)strtoul(argv[3], NULL, 10);
+    total = strtoull(argv[1], NULL, 10);
+    seconds = (unsigned)strtoul(argv[3], NULL, 10);
     folder = argv[4];
     start_bits(strtoull(argv[2], NULL, 10));
     for (int i = 5; i < argc; i++) read_jobs(argv[i]);
     job = lent_new(LONGEST), sheet = lent_new(SHEET), numbers = lent_new(3 * sizeof(uint32_t));
     first = lent_new(MOST_WORK * sizeof(double)), second = lent_new(MOST_WORK * sizeof(double));
-    catch_signals();
-    for (uint64_t n = 0; n < total; n++)
-        if (!try_one(n, seconds)) return 1;
+    size_t stack;
+    if (!on_painted_stack(try_all, &stack)) return 1;
     printf("robust: %" PRIu64 " damaged jobs as they must be: %" PRIu64 " sheets", total, counts[0]);
     for (int k = 1; k <= MOST_NUMBER; k++) printf(", %d: %" PRIu64, k, counts[k]);
-    printf("; slowest %.0f ms\n", slowest);
+    printf("; slowest %.0f ms, stack %zu KiB\n", slowest, (stack + 1023) / 1024);
     return 0;
 }
