@@ -12,3 +12,4 @@ pub mod Floor
 pub mod Nearest
 pub mod Monotone
 pub mod Minimum
+pub mod Sign

@@ -13,6 +13,7 @@ pub use order::abs;
 pub use order::clamp;
 pub use order::max;
 pub use order::min;
+pub use order::negate_unless;
 
 // Whole parts and casts to integers.
 mod whole;

@@ -127,8 +127,5 @@ pub fn signed_clearance(px: f64, py: f64, sizes: &[usize], coords: &[f64]) -> f6
     ensures { λ r. ⌜ r ≡ signedClearance px py (pieceOf (now (sizes .entry)) (now (coords .entry))) ⌝ }
 {
     let dist = min_dist_to_rings(px, py, sizes, coords);
-    if inside_piece(px, py, sizes, coords) {
-        return dist;
-    }
-    -dist
+    float::negate_unless(dist, inside_piece(px, py, sizes, coords))
 }

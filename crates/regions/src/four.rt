@@ -170,11 +170,7 @@ fn in_piece(xs: Four, ys: Four, sizes: &[usize], coords: &[f64]) -> Flags
 fn signed(square: f64, inside: bool) -> f64
     ensures { λ r. ⌜ r ≡ cond inside (sqrt square) (neg (sqrt square)) ⌝ }
 {
-    let dist = float::root(square);
-    if inside {
-        return dist;
-    }
-    -dist
+    float::negate_unless(float::root(square), inside)
 }
 
 pub fn four_clearances(xs: Four, ys: Four, sizes: &[usize], coords: &[f64]) -> Four

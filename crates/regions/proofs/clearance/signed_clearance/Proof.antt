@@ -7,4 +7,10 @@ use Rattle.regions.proofs.clearance.signed_clearance.Tie as tie
 
 pub signed-clearance-spec : {M : Type 1} → statement M
 unfolding signedClearance
-signed-clearance-spec = tie.close (tie.spec (λ c κs. search needs) (λ c κs. search needs) (λ c. rw (← c .before .inside-piece .ensures, c .if1 .taken) (cc)) (λ c. rw (← c .before .inside-piece .ensures, c .if1 .left) (cc)))
+signed-clearance-spec =
+    tie.close
+    (tie.spec
+    (λ c κs. search needs)
+    (λ c κs. search needs)
+    (λ c κs. search needs)
+    (λ c. rw (c .negate-unless .ensures, c .before .inside-piece .ensures, c .before .before .min-dist-to-rings .ensures)))
