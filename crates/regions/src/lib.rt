@@ -1,4 +1,4 @@
-// polygon.rs and regions.rs: area, inside test, clearance and deepest point of a piece. A piece is the sizes of
+// polygon.rs and regions.rs: area, inside test and clearance of a piece. A piece is the sizes of
 // its rings in vertices, the outer ring first, and their coordinates, x and y in turn, ring after ring.
 pub mod area;
 pub mod clearance;
