@@ -1,5 +1,5 @@
 // regions.rs, `signed_clearance` of four places at once: each edge is read once, and the four are worked out side by
-// side with no branch.
+// side.
 ghost use mathlib.Core.Path.{_≡_};
 ghost use mathlib.Core.Bool.{cond, not, _&&_};
 ghost use Prim.Native.Nat.{_*_, _<_, _≤_};
