@@ -10,8 +10,5 @@ pub flag-le : (b : Bool) → boolByte b ≤ 1
 flag-le true = omega arith
 flag-le false = omega arith
 
-pub sum-lt : (r d : ℕ) → r < 2 ^ 54 → d ≤ 1 → r + d < 2 ^ 55
-sum-lt r d h k = omega arith
-
 pub sum-fits : (r d : ℕ) → r < 2 ^ 55 → d ≤ 1 → Fits w64 (r + d)
 sum-fits r d h k = record { fits = omega arith }

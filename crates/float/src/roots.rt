@@ -2,7 +2,8 @@
 // the digits found one at a time where the test fails.
 ghost use mathlib.Core.Path.{_≡_};
 ghost use Prim.Native.Nat.{_+_, _*_, _-_, _^_, _≤_, _<_};
-ghost use lib.Ieee.{binary64, toBits, ofBits};
+ghost use lib.Dec.{T};
+ghost use lib.Ieee.{binary64, ofBits};
 ghost use Rattle.float.specs.Root.{Near, nearestRoot, rootOf};
 ghost use Rattle.float.specs.Order.{sqrt, hypot};
 
@@ -28,89 +29,98 @@ fn digit_root(m: u64) -> u64
     if rest > q { q + 1 } else { q }
 }
 
-// A guess at √n, less 1, from the bit pattern of n as an `f64`, for an n of 105 or 106 digits: 1 / √n from
-// the pattern, as in the fast inverse square root of Quake III Arena, mended by three steps of Newton's
-// method, and a fourth on the root itself. Each step is a sum of products that do not wait for one another.
-// Nothing is proved of the guess but its range: `checked_root` tests it.
-fn root_guess(pattern: u64) -> u64
-    requires { ⌜ pattern < 0x4690_0000_0000_0000 ⌝ }
-    ensures { λ r. ⌜ r < 2 ^ 54 ⌝ }
+// A guess at √x from the bit pattern of x: 1 / √x from the pattern, as in the fast inverse square root of Quake III
+// Arena, and two steps of Newton's method, with the numbers that leave the least error, give d, to 21 digits. Then s
+// is x * d to 22 digits, so that `rest`, what x has above s * s, is exact, and rest / (s + √x), worked out by d and
+// `rest`, is what s lacks. Nothing is proved of the guess: `scaled_root` tests it. For a normal x it is the root but
+// for some 4 in 10,000.
+fn root_guess(pattern: u64) -> f64
+    requires { ⌜ pattern < 0x7ff0_0000_0000_0000 ⌝ }
 {
     let x = f64::from_bits(pattern);
-    let h = x * 0.5;
-    let a = f64::from_bits(0x5fe6_eb50_c7b5_37a9 - pattern / 2);
-    let b = 1.5 * a - h * a * (a * a);
-    let c = 1.5 * b - h * b * (b * b);
-    let d = 1.5 * c - h * c * (c * c);
-    let s = x * d;
-    let root = s + s * (0.5 - h * d * d);
-    if root > 0.0 {
-        let bits = f64::to_bits(root);
-        if bits > 0x4320_0000_0000_0000 {
-            if bits < 0x4350_0000_0000_0000 {
-                return bits - 0x4320_0000_0000_0001;
-            }
-        }
-    }
-    0
+    let a = f64::from_bits(0x5fdc_0350_c7b5_37a9 - pattern / 2);
+    let b = 2.3772155016748284 * a - 1.9876450036639726 * x * a * (a * a);
+    let d = 1.5000003679429867 * b - 0.5000000525632304 * x * b * (b * b);
+    let q = x * d;
+    let h = 0.5 * d;
+    let g = h + 0.5 * h * (1.0 - q * d);
+    let t = q * 2147483649.0;
+    let s = t - (t - q);
+    let rest = x - s * s;
+    let lack = rest * g;
+    s + (lack + lack * (rest * (h * h)))
 }
 
-// The whole number nearest to √(m * 2^52), as `digit_root` finds it, given a guess r. Where m * 2^52 - r * r
-// is not negative and small, it is worked out exactly, in halves of 27 bits, as `rest`, and where that says
-// that the nearest is r, r + 1 or r + 2, it is returned. For any other guess the digits are found.
-fn checked_root(m: u64, r: u64) -> u64
-    requires { ⌜ 2 ^ 52 ≤ m ⌝ ∗ ⌜ m < 2 ^ 54 ⌝ ∗ ⌜ r < 2 ^ 54 ⌝ }
-    ensures { λ w. ⌜ Near (m * 2 ^ 52) w ⌝ }
+// Whether r is seen to be the whole number nearest to √(m * 2^52). Where (m + 2) * 2^52 - r * r is not negative and
+// small, it is worked out exactly, in halves of 27 bits, as `rest`: the nearest is r where that is 2^53, give or
+// take r.
+fn is_nearest(m: u64, r: u64) -> bool
+    requires { ⌜ m < 2 ^ 54 ⌝ ∗ ⌜ r < 2 ^ 54 ⌝ }
+    ensures { λ b. ⌜ (T b → Near (m * 2 ^ 52) r) ⌝ }
 {
     let a = r / 0x800_0000;
     let b = r % 0x800_0000;
+    let top = m + 2;
     let square = a * a * 4;
-    if square <= m {
-        let high = m - square;
-        if high < 0x8_0000_0000 {
-            let cross = a * b;
-            if cross <= high * 0x100_0000 {
-                let middle = high * 0x100_0000 - cross;
-                if middle < 0x8_0000_0000 {
-                    let low = b * b;
-                    if low <= middle * 0x1000_0000 {
-                        let rest = middle * 0x1000_0000 - low;
-                        if rest <= r * 5 + 6 {
-                            if r > 0 {
-                                return r + (rest > r) as u64 + (rest > r * 3 + 2) as u64;
-                            }
-                        }
-                    }
+    if square > top {
+        return false;
+    }
+    let high = top - square;
+    if high >= 0x8_0000_0000 {
+        return false;
+    }
+    let cross = a * b;
+    if cross > high * 0x100_0000 {
+        return false;
+    }
+    let middle = high * 0x100_0000 - cross;
+    if middle >= 0x8_0000_0000 {
+        return false;
+    }
+    let low = b * b;
+    if low > middle * 0x1000_0000 {
+        return false;
+    }
+    let rest = middle * 0x1000_0000 - low;
+    (rest + r > 0x20_0000_0000_0000) & (rest <= r + 0x20_0000_0000_0000)
+}
+
+// The `f64` nearest to √n of the least `f64`, 2^-1074, where n is m * 2^52 * 2^g: m has 53 digits, and the last
+// bit of g, where it is set, is moved into m, so that the root is √(m * 2^52) * 2^(g / 2). A pattern's fields are
+// the digits and, from bit 52 on, how far they are moved. The guess is returned where its digits are seen to be
+// the nearest: nothing that waits for the root waits for the test. For any other guess the digits are found.
+fn scaled_root(guess: f64, m: u64, g: u64) -> f64
+    requires { ⌜ 2 ^ 52 ≤ m ⌝ ∗ ⌜ m < 2 ^ 53 ⌝ ∗ ⌜ g < 3068 ⌝ }
+    ensures { λ r. ⌜ r ≡ nearestRoot binary64 (m * 2 ^ 52 * 2 ^ g) ⌝ }
+{
+    let field = g / 2 * 0x10_0000_0000_0000;
+    let digits = m << (g % 2);
+    if guess > 0.0 {
+        let bits = f64::to_bits(guess);
+        if bits >= field {
+            let r = bits - field;
+            if r < 0x40_0000_0000_0000 {
+                if is_nearest(digits, r) {
+                    return guess;
                 }
             }
         }
     }
-    digit_root(m)
+    f64::from_bits(field + digit_root(digits))
 }
 
-// The bit pattern of the `f64` nearest to √n of the least `f64`, 2^-1074, where n is m * 2^52 * 2^g: m has
-// 53 digits, and the last bit of g, where it is set, is moved into m, so that the root is
-// √(m * 2^52) * 2^(g / 2). A pattern's fields are the digits and, from bit 52 on, how far they are moved.
-fn scaled_root(m: u64, g: u64) -> u64
-    requires { ⌜ 2 ^ 52 ≤ m ⌝ ∗ ⌜ m < 2 ^ 53 ⌝ ∗ ⌜ g < 3068 ⌝ }
-    ensures { λ r. ⌜ r ≡ toBits binary64 (nearestRoot binary64 (m * 2 ^ 52 * 2 ^ g)) ⌝ }
-{
-    let odd = g % 2;
-    let guess = root_guess(m + 0x4660_0000_0000_0000 + odd * 0x10_0000_0000_0000);
-    (g / 2) * 0x10_0000_0000_0000 + checked_root(m << odd, guess)
-}
-
-// The root's bit pattern from that of a finite x above zero. A pattern below 2^52 is a subnormal x:
-// its digits are moved up until they are 53.
-fn root_bits(bits: u64) -> u64
+// The root of a finite x above zero from its bit pattern. A pattern below 2^52 is a subnormal x: its digits are
+// moved up until they are 53, and nothing is guessed.
+fn root_of(bits: u64) -> f64
     requires { ⌜ 0 < bits ⌝ ∗ ⌜ bits < 0x7ff0_0000_0000_0000 ⌝ }
-    ensures { λ r. ⌜ r ≡ toBits binary64 (rootOf binary64 (ofBits binary64 bits)) ⌝ }
+    ensures { λ r. ⌜ r ≡ rootOf binary64 (ofBits binary64 bits) ⌝ }
 {
     if bits < 0x10_0000_0000_0000 {
         let z = u64::leading_zeros(bits) - 11;
-        scaled_root(bits << z, (1022 - z) as u64)
+        scaled_root(0.0, bits << z, (1022 - z) as u64)
     } else {
         scaled_root(
+            root_guess(bits),
             bits % 0x10_0000_0000_0000 + 0x10_0000_0000_0000,
             bits / 0x10_0000_0000_0000 + 1021,
         )
@@ -124,7 +134,7 @@ pub fn root(x: f64) -> f64
     if x > 0.0 {
         let bits = f64::to_bits(x);
         if bits < 0x7ff0_0000_0000_0000 {
-            f64::from_bits(root_bits(bits))
+            root_of(bits)
         } else {
             x
         }

@@ -1,14 +1,10 @@
--- What is left of m * 2 ^ 52 after the square of r, worked out in halves of 27 bits; and which whole number is nearest to the root, by what is left.
+-- What is left of m * 2 ^ 52 after the square of r, worked out in halves of 27 bits; and that r is nearest to the root, by what is left.
 -- Assumes nothing.
-use mathlib.Core.Path.{_≡_, refl, subst}
-use mathlib.Core.Bool.{Bool, true, false}
+use mathlib.Core.Path.{_≡_, subst}
 use Prim.Native.Nat.{ℕ, zero, suc, _+_, _-_, _*_, _/_, _%_, _^_, _≤_, _<_}
 use native.Mathlib.Nat.{le-of-lt, lt-of-le-of-lt, mul-le-mul-left, mul-lt-mul-of-pos-right, div-add-mod'}
 use native.Mathlib.Omega.{arith}
-use lib.Dec.{ltb}
 use lib.Pow.{pow-pos}
-use mir.Val.{boolByte}
-use borrow.Author.Tests.{ltb-true, ltb-false}
 use Rattle.float.specs.Root.{Near}
 use Rattle.float.proofs.roots.Digit.{near-suc}
 
@@ -35,13 +31,7 @@ pub residual : (m r : ℕ) → r / 2 ^ 27 * (r / 2 ^ 27) * 4 ≤ m → r / 2 ^ 2
     → r * r + rest m (r / 2 ^ 27) (r % 2 ^ 27) ≡ m * 2 ^ 52
 residual m r x y z = subst (λ (n : ℕ). n * n + rest m (r / 2 ^ 27) (r % 2 ^ 27) ≡ m * 2 ^ 52) (div-add-mod' r (2 ^ 27)) (left m (r / 2 ^ 27) (r % 2 ^ 27) x y z)
 
--- ---- which is nearest: r and what two tests add to it
-pub chosen : (y r d : ℕ) → r * r + d ≡ y → 0 < r → d ≤ r * 5 + 6 → Near y (r + boolByte (ltb r d) + boolByte (ltb (r * 3 + 2) d))
-chosen y zero d e p h = absurd (omega arith)
-chosen y (suc p) d e q h = go (ltb (suc p) d) (ltb (suc p * 3 + 2) d) (ltb-true (suc p) d) (ltb-false (suc p) d) (ltb-true (suc p * 3 + 2) d) (ltb-false (suc p * 3 + 2) d)
-  where
-    go : (s t : Bool) → (s ≡ true → suc p < d) → (s ≡ false → d ≤ suc p) → (t ≡ true → suc p * 3 + 2 < d) → (t ≡ false → d ≤ suc p * 3 + 2) → Near y (suc p + boolByte s + boolByte t)
-    go false false a b c f = let i = b refl in subst (Near y) (omega arith) (near-suc y p (omega arith) (omega arith))
-    go true false a b c f = let i = a refl in let j = f refl in subst (Near y) (omega arith) (near-suc y (suc p) (omega arith) (omega arith))
-    go true true a b c f = let j = c refl in subst (Near y) (omega arith) (near-suc y (suc (suc p)) (omega arith) (omega arith))
-    go false true a b c f = let i = b refl in let j = c refl in absurd (omega arith)
+-- ---- r is nearest where that is 2 ^ 53, give or take r, of 2 ^ 53 more
+pub nearest : (y r d : ℕ) → r * r + d ≡ y + 2 ^ 53 → 2 ^ 53 < d + r → d ≤ r + 2 ^ 53 → Near y r
+nearest y zero d e l h = absurd (omega arith)
+nearest y (suc p) d e l h = near-suc y p (omega arith) (omega arith)

@@ -1,12 +1,15 @@
--- The pattern of the root of m * 2 ^ 52 * 2 ^ g, from the whole number r nearest to √(M * 2 ^ 52), where M is m or 2 * m as g is even or odd.
--- Rests on `Laws/Floor.antt` and `Fields.antt`.
+-- The root of m * 2 ^ 52 * 2 ^ g, and its pattern, from the whole number r nearest to √(M * 2 ^ 52), where M is m or 2 * m as g is even or odd.
+-- Rests on `Laws/Floor.antt`, `Laws/Fits.antt` and `Fields.antt`.
 use mathlib.Core.Path.{_≡_, sym, ap, _∙_, subst}
-use Prim.Native.Nat.{ℕ, _+_, _*_, _/_, _%_, _^_, _≤_, _<_}
+use Prim.Native.Nat.{ℕ, _+_, _-_, _*_, _/_, _%_, _^_, _≤_, _<_}
 use native.Mathlib.Nat.{le-trans, le-of-eq, lt-of-le-of-lt, mul-le-mul-right, mul-lt-mul-of-pos-right, mul-assoc, mul-right-comm, mod-eq-of-lt, mul-le-mul-left, le-mul-of-pos-right, zero-lt-suc}
 use native.Mathlib.Omega.{arith}
 use lib.Pow.{pow-add, pow-pos, pow-lt, pow-mono}
-use lib.Ieee.{binary64, toBits}
+use lib.Dec.{T}
+use lib.Ieee.{Float, binary64, fits, ofBits, toBits}
+use lib.Ieee.Bits.{ofBits-toBits}
 use Rattle.float.specs.Root.{nearestRoot, Near}
+use Rattle.float.specs.Laws.Fits.{nearestRoot-fits}
 use Rattle.float.specs.Laws.Floor.{nearest-at, near-le, near-ge}
 use Rattle.float.proofs.roots.Fields.{units-pattern}
 
@@ -47,9 +50,19 @@ module _ (m g : ℕ) (least : 2 ^ 52 ≤ m) (most : m < 2 ^ 53) where
       let e : g ≡ g % 2 + (g / 2 + g / 2) = omega arith in
       ap (λ (x : ℕ). 2 ^ x) e ∙ pow-add 2 (g % 2) (g / 2 + g / 2) ∙ ap (λ (x : ℕ). 2 ^ (g % 2) * x) (pow-add 2 (g / 2) (g / 2))
 
-  pub scaled-any : (r : ℕ) → g < 3068 → Near (m * 2 ^ (g % 2) % 2 ^ 64 * 2 ^ 52) r → g / 2 * 2 ^ 52 + r ≡ toBits binary64 (nearestRoot binary64 (m * 2 ^ 52 * 2 ^ g))
+  scaled-any : (r : ℕ) → g < 3068 → Near (m * 2 ^ (g % 2) % 2 ^ 64 * 2 ^ 52) r → g / 2 * 2 ^ 52 + r ≡ toBits binary64 (nearestRoot binary64 (m * 2 ^ 52 * 2 ^ g))
   scaled-any r small n =
       let u = 2 ^ (g / 2) * 2 ^ (g / 2) in
       let q : m * 2 ^ (g % 2) % 2 ^ 64 * 2 ^ 52 * u ≡ m * 2 ^ 52 * 2 ^ g =
       ap (λ (x : ℕ). x * 2 ^ 52 * u) kept ∙ ap (λ (x : ℕ). x * u) (mul-right-comm m (2 ^ (g % 2)) (2 ^ 52)) ∙ mul-assoc (m * 2 ^ 52) (2 ^ (g % 2)) u ∙ ap (λ (x : ℕ). m * 2 ^ 52 * x) (sym power) in
       scaled (m * 2 ^ 52 * 2 ^ g) (m * 2 ^ (g % 2) % 2 ^ 64) (g / 2) r q moved-le moved-lt (omega arith) n
+
+  -- the root from the pattern that the program makes of its digits
+  pub from-digits : (r : ℕ) → g < 3068 → Near (m * 2 ^ (g % 2) % 2 ^ 64 * 2 ^ 52) r → ofBits binary64 (g / 2 * 2 ^ 52 + r) ≡ nearestRoot binary64 (m * 2 ^ 52 * 2 ^ g)
+  from-digits r small n = ap (ofBits binary64) (scaled-any r small n) ∙ ofBits-toBits binary64 (nearestRoot binary64 (m * 2 ^ 52 * 2 ^ g)) (nearestRoot-fits binary64 (m * 2 ^ 52 * 2 ^ g))
+
+  -- a value whose pattern has them is it
+  pub from-value : (x : Float) → T (fits binary64 x) → g / 2 * 2 ^ 52 ≤ toBits binary64 x → g < 3068 → Near (m * 2 ^ (g % 2) % 2 ^ 64 * 2 ^ 52) (toBits binary64 x - g / 2 * 2 ^ 52) → x ≡ nearestRoot binary64 (m * 2 ^ 52 * 2 ^ g)
+  from-value x f l small n =
+      let e : toBits binary64 x ≡ g / 2 * 2 ^ 52 + (toBits binary64 x - g / 2 * 2 ^ 52) = omega arith in
+      sym (ofBits-toBits binary64 x f) ∙ ap (ofBits binary64) e ∙ from-digits (toBits binary64 x - g / 2 * 2 ^ 52) small n

@@ -27,11 +27,6 @@ above-it x h = rw origin-is at (yes h)
 pub above-number : (x : Float) → Above x → Number x
 above-number x h = lt-number (ofBits binary64 0) x (yes h) .1
 
--- what the program makes of the root's pattern
-pub pattern-number : (x : Float) → T (fits binary64 x) → Above x → T (not (nanBits binary64 (toBits binary64 (rootOf binary64 x))))
-pattern-number x f h =
-    rw (nanBits-is binary64 (toBits binary64 (rootOf binary64 x)) ∙ ap isNan (ofBits-toBits binary64 (rootOf binary64 x) (rootOf-fits binary64 x f))) (le-number origin (rootOf binary64 x) (root-above binary64 x (lt-le origin x (above-it x h))) .1)
-
 pub above-pattern : (x : Float) → T (fits binary64 x) → Above x → 0 < toBits binary64 x
 above-pattern x f h =
     elim (eq-zero-or-pos (toBits binary64 x)) [

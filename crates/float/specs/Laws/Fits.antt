@@ -18,7 +18,7 @@ units-fits f q k h = go (ltb (q * 2 ^ k) (2 ^ (low f + suc (emax f)))) (ltb→lt
     go true t = odd-fits f (suc (prec f)) false q k (lt-of-le-of-lt h (pow-lt (le-refl (suc (prec f))))) h (t tt)
     go false t = inf-fits f false
 
-nearestRoot-fits : (f : Format) (n : ℕ) → T (fits f (nearestRoot f n))
+pub nearestRoot-fits : (f : Format) (n : ℕ) → T (fits f (nearestRoot f n))
 unfolding nearestRoot
 nearestRoot-fits f n =
     let w = floorRoot (size n) n in

@@ -1,55 +1,60 @@
 -- `float::scaled_root` meets its contract: the nearest whole number's digits under the exponent's field are the root's pattern.
--- Rests on `Scaled.antt`.
-use Prim.Native.Nat.{_*_, _%_, _^_}
+-- Rests on `Scaled.antt` and the contracts of `is_nearest` and `digit_root`.
+use Prim.Native.Nat.{_+_, _*_, _/_, _%_, _^_, _≤_}
 use native.Mathlib.Omega.{arith}
 use borrow.Author.Needs.{needs}
-use Rattle.float.proofs.roots.Scaled.{at-most, moved-le, moved-lt, scaled-any}
+use Rattle.laws.specs.Truth.{yes}
+use Rattle.float.specs.Laws.Pattern.{no-nan}
+use Rattle.float.proofs.roots.Tests.{above-number}
+use Rattle.float.proofs.roots.Scaled.{at-most, moved-le, moved-lt, from-digits, from-value}
 use Rattle.float.proofs.roots.scaled_root.Statement.{statement}
 use Rattle.float.proofs.roots.scaled_root.Tie as tie
 
-add-root-guess : tie.Need-add-root-guess
-add-root-guess c = search needs
+float-to-bits-bits : tie.Need-float-to-bits-bits
+float-to-bits-bits c = above-number (c .before .args .guess) (c .if1 .taken)
 
-mul-root-guess : tie.Need-mul-root-guess
-mul-root-guess c = search needs
-
-add-root-guess-2 : tie.Need-add-root-guess-2
-add-root-guess-2 c = search needs
-
-root-guess-requires : tie.Need-root-guess-requires
-root-guess-requires c κs = search needs
-
-mul-result : tie.Need-mul-result
-mul-result c = search needs
-
-shl-checked-root : tie.Need-shl-checked-root
-shl-checked-root c = search needs
-
-checked-root-requires : tie.Need-checked-root-requires
-checked-root-requires c κs =
-    let s = c .before in
-    (moved-le (s .args .m) (s .args .g) (s .pre .0) (s .pre .1 .0), (moved-lt (s .args .m) (s .args .g) (s .pre .0) (s .pre .1 .0), c .root-guess .ensures))
-
-add-result : tie.Need-add-result
-add-result c =
-    let s = c .before .before in
-    omega (arith, at-most (s .args .m * 2 ^ (s .args .g % 2) % 2 ^ 64) (c .checked-root .result) (moved-lt (s .args .m) (s .args .g) (s .pre .0) (s .pre .1 .0)) (c .checked-root .ensures))
+is-nearest-requires : tie.Need-is-nearest-requires
+is-nearest-requires c κs =
+    let s = c .before .before .before in
+    (moved-lt (s .args .m) (s .args .g) (s .pre .0) (s .pre .1 .0), c .if3 .taken)
 
 returns : tie.Need-returns
 returns c =
+    let s = c .before .before .before .before .before in
+    from-value (s .args .m) (s .args .g) (s .pre .0) (s .pre .1 .0) (s .args .guess) (yes (s .good .0 .1)) (c .before .before .before .if2 .taken) (s .pre .1 .1) (c .before .is-nearest .ensures (yes (c .if4 .taken)))
+
+digit-root-requires : tie.Need-digit-root-requires
+digit-root-requires c κs =
+    let s = c .before in
+    (moved-le (s .args .m) (s .args .g) (s .pre .0) (s .pre .1 .0), moved-lt (s .args .m) (s .args .g) (s .pre .0) (s .pre .1 .0))
+
+-- the digits found are at most 2 ^ 53
+most : (c : tie.After-digit-root) → c .digit-root .result ≤ 2 ^ 53
+most c =
     let s = c .before .before in
-    scaled-any (s .args .m) (s .args .g) (s .pre .0) (s .pre .1 .0) (c .checked-root .result) (s .pre .1 .1) (c .checked-root .ensures)
+    at-most (s .args .m * 2 ^ (s .args .g % 2) % 2 ^ 64) (c .digit-root .result) (moved-lt (s .args .m) (s .args .g) (s .pre .0) (s .pre .1 .0)) (c .digit-root .ensures)
+
+add-result : tie.Need-add-result
+add-result c = omega (arith, most c)
+
+float-from-bits-result : tie.Need-float-from-bits-result
+float-from-bits-result c = no-nan (c .before .before .args .g / 2 * 2 ^ 52 + c .digit-root .result) (omega (arith, most c))
+
+returns-2 : tie.Need-returns-2
+returns-2 c =
+    let s = c .before .before in
+    from-digits (s .args .m) (s .args .g) (s .pre .0) (s .pre .1 .0) (c .digit-root .result) (s .pre .1 .1) (c .digit-root .ensures)
 
 pub scaled-root-spec : {M : Type 1} → statement M
 scaled-root-spec =
     tie.close
     (tie.spec
-    add-root-guess
-    mul-root-guess
-    add-root-guess-2
-    root-guess-requires
-    mul-result
-    shl-checked-root
-    checked-root-requires
+    (λ c. search needs)
+    (λ c. search needs)
+    float-to-bits-bits
+    is-nearest-requires
+    returns
+    digit-root-requires
     add-result
-    returns)
+    float-from-bits-result
+    returns-2)

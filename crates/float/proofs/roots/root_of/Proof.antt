@@ -1,16 +1,16 @@
--- `float::root_bits` meets its contract: a pattern's fields are the digits and their scale.
+-- `float::root_of` meets its contract: a pattern's fields are the digits and their scale.
 -- Rests on `Value.antt` and the contract of `scaled_root`.
 use mathlib.Core.Path.{_≡_, sym, ap, _∙_}
 use Prim.Native.Nat.{ℕ, _*_, _-_, _%_, _^_, _<_}
 use native.Mathlib.Nat.{mod-eq-of-lt}
 use native.Mathlib.Omega.{arith}
 use lib.Count.{leadingZeros}
-use lib.Ieee.{binary64, toBits}
+use lib.Ieee.{binary64}
 use Rattle.float.specs.Root.{nearestRoot}
 use borrow.Author.Needs.{needs}
 use Rattle.float.proofs.roots.Value.{normal-root, subnormal-root, moved}
-use Rattle.float.proofs.roots.root_bits.Statement.{statement}
-use Rattle.float.proofs.roots.root_bits.Tie as tie
+use Rattle.float.proofs.roots.root_of.Statement.{statement}
+use Rattle.float.proofs.roots.root_of.Tie as tie
 
 -- moving the digits up loses none
 kept : (n : ℕ) → n < 2 ^ 53 → n % 2 ^ 64 ≡ n
@@ -34,6 +34,9 @@ cast-scaled-root-2 c = search needs
 scaled-root-requires : tie.Need-scaled-root-requires
 scaled-root-requires c κs = omega (arith, moved (c .before .args .bits) (c .before .pre .0) (c .if1 .taken))
 
+root-guess-requires : tie.Need-root-guess-requires
+root-guess-requires c κs = search needs
+
 add-scaled-root : tie.Need-add-scaled-root
 add-scaled-root c = search needs
 
@@ -48,16 +51,16 @@ returns c =
     let s = c .before .before in
     let f = moved (s .args .bits) (s .pre .0) (c .before .if1 .taken) in
     c .scaled-root .ensures
-    ∙ ap (λ (n : ℕ). toBits binary64 (nearestRoot binary64 (n * 2 ^ 52 * 2 ^ (1022 - (leadingZeros 64 (s .args .bits) - 11))))) (kept (s .args .bits * 2 ^ (leadingZeros 64 (s .args .bits) - 11)) (f .3))
-    ∙ ap (toBits binary64) (sym (subnormal-root (s .args .bits) (leadingZeros 64 (s .args .bits) - 11) (s .pre .0) (c .before .if1 .taken) (f .1)))
+    ∙ ap (λ (n : ℕ). nearestRoot binary64 (n * 2 ^ 52 * 2 ^ (1022 - (leadingZeros 64 (s .args .bits) - 11)))) (kept (s .args .bits * 2 ^ (leadingZeros 64 (s .args .bits) - 11)) (f .3))
+    ∙ sym (subnormal-root (s .args .bits) (leadingZeros 64 (s .args .bits) - 11) (s .pre .0) (c .before .if1 .taken) (f .1))
 
 returns-2 : tie.Need-returns-2
 returns-2 c =
-    let s = c .before .before in
-    c .scaled-root2 .ensures ∙ ap (toBits binary64) (sym (normal-root (s .args .bits) (c .before .if1 .left) (s .pre .1)))
+    let s = c .before .before .before in
+    c .scaled-root2 .ensures ∙ sym (normal-root (s .args .bits) (c .before .before .if1 .left) (s .pre .1))
 
-pub root-bits-spec : {M : Type 1} → statement M
-root-bits-spec =
+pub root-of-spec : {M : Type 1} → statement M
+root-of-spec =
     tie.close
     (tie.spec
     sub-z
@@ -66,6 +69,7 @@ root-bits-spec =
     sub-scaled-root
     cast-scaled-root-2
     scaled-root-requires
+    root-guess-requires
     add-scaled-root
     add-scaled-root-2
     scaled-root-requires-2
