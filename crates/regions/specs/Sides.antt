@@ -1,75 +1,78 @@
 -- The even-odd test passes over edges whose vertices are all above the point, or all not: none of them is crossed.
 -- Rests on nothing but the definitions.
-use Prim.Native.Nat.{ℕ, zero, suc, _+_, _-_, _<_}
-use mathlib.Core.Path.{_≡_, refl, sym, _∙_}
+use Prim.Native.Nat.{ℕ, zero, suc, _+_, _-_, _<_, _≤_}
+use mathlib.Core.Path.{_≡_, refl, _∙_}
 use mathlib.Core.Logic.{inl, inr}
 use mathlib.Core.Bool.{Bool, true, false, not, cond, _&&_, _||_, Bool·beq}
 use native.Mathlib.Omega.{arith}
-use lib.Dec.{T}
+use lib.Dec.{T, eqb, eqb→eq}
 use lib.Ieee.{Float}
-use lib.Ieee.Bits.{is-true, is-false}
-use lib.Ieee.Fits.{and-l, and-r}
-use Rattle.laws.specs.Truth.{or-split, nor-l, nor-r}
+use mir.Val.{boolByte}
+use Rattle.laws.specs.Truth.{or-split}
 use Rattle.float.specs.Ops.{_>ᶠ_}
 use Rattle.glyphs.specs.Points.{Ring, xAt, yAt}
 use Rattle.regions.specs.Ring.{prev}
 use Rattle.regions.specs.Inside.{intersect, flip, insideAfter}
 
--- all of the m vertices from i on are above y; some are
-unfoldable pub allAbove : Float → Ring → ℕ → ℕ → Bool
-allAbove y v i zero = true
-allAbove y v i (suc m) = allAbove y v i m && yAt v (i + m) >ᶠ y
-
-unfoldable pub someAbove : Float → Ring → ℕ → ℕ → Bool
-someAbove y v i zero = false
-someAbove y v i (suc m) = someAbove y v i m || yAt v (i + m) >ᶠ y
+-- how many of the m vertices from i on are above y
+unfoldable pub aboveCount : Float → Ring → ℕ → ℕ → ℕ
+aboveCount y v i zero = 0
+aboveCount y v i (suc m) = aboveCount y v i m + boolByte (yAt v (i + m) >ᶠ y)
 
 abbrev pub onOneSide : Float → Ring → ℕ → ℕ → Bool
-onOneSide y v i m = allAbove y v i m || not (someAbove y v i m)
+onOneSide y v i m = eqb (aboveCount y v i m) 0 || eqb (aboveCount y v i m) m
 
-same-side : (x y xi yi xj yj : Float) → (yi >ᶠ y) ≡ (yj >ᶠ y) → intersect x y xi yi xj yj ≡ false
+-- a flag is at most 1, and a count at most the number of vertices looked at
+pub flag-le : (b : Bool) → boolByte b ≤ 1
+flag-le true = omega arith
+flag-le false = omega arith
+
+pub at-most : (y : Float) (v : Ring) (i m : ℕ) → aboveCount y v i m ≤ m
+unfolding aboveCount
+at-most y v i zero = omega arith
+at-most y v i (suc m) = omega (arith, at-most y v i m, flag-le (yAt v (i + m) >ᶠ y))
+
+same-side : (x y xi yi xj yj : Float) → boolByte (yi >ᶠ y) ≡ boolByte (yj >ᶠ y) → intersect x y xi yi xj yj ≡ false
 unfolding intersect
-same-side x y xi yi xj yj e = rw e (go (yj >ᶠ y) _)
+same-side x y xi yi xj yj e = go (yi >ᶠ y) (yj >ᶠ y) _ e
   where
-    go : (a b : Bool) → not (Bool·beq a a) && b ≡ false
-    go true b = refl
-    go false b = refl
+    go : (a b c : Bool) → boolByte a ≡ boolByte b → not (Bool·beq a b) && c ≡ false
+    go true true c e = refl
+    go true false c e = absurd (omega arith)
+    go false true c e = absurd (omega arith)
+    go false false c e = refl
 
 module _ (x y : Float) (v : Ring) (n : ℕ) where
   -- a turn whose edge has both ends on one side changes nothing
-  passed : (i : ℕ) → (yAt v (suc i) >ᶠ y) ≡ (yAt v i >ᶠ y) → insideAfter x y v n (suc (suc i)) ≡ insideAfter x y v n (suc i)
+  passed : (i : ℕ) → boolByte (yAt v (suc i) >ᶠ y) ≡ boolByte (yAt v i >ᶠ y) → insideAfter x y v n (suc (suc i)) ≡ insideAfter x y v n (suc i)
   unfolding insideAfter prev flip
   passed i e = rw (same-side x y (xAt v (suc i)) (yAt v (suc i)) (xAt v i) (yAt v i) e)
 
-  one-more : (i m : ℕ) → (yAt v (i + suc m) >ᶠ y) ≡ (yAt v (i + m) >ᶠ y) → insideAfter x y v n (i + suc (suc m)) ≡ insideAfter x y v n (i + suc m)
+  one-more : (i m : ℕ) → boolByte (yAt v (i + suc m) >ᶠ y) ≡ boolByte (yAt v (i + m) >ᶠ y) → insideAfter x y v n (i + suc (suc m)) ≡ insideAfter x y v n (i + suc m)
   one-more i m e =
       let a : i + suc m ≡ suc (i + m) = omega arith in
       let b : i + suc (suc m) ≡ suc (suc (i + m)) = omega arith in
       rw (a, b) (passed (i + m) (rw (← a) e))
 
-  all-passed : (i m : ℕ) → T (allAbove y v i (suc m)) → insideAfter x y v n (i + suc m) ≡ insideAfter x y v n (i + 1)
-  unfolding allAbove
-  all-passed i zero t = refl
-  all-passed i (suc m) t =
-      let p = and-l (allAbove y v i (suc m)) (yAt v (i + suc m) >ᶠ y) t in
-      let q = and-r (allAbove y v i (suc m)) (yAt v (i + suc m) >ᶠ y) t in
-      let r = and-r (allAbove y v i m) (yAt v (i + m) >ᶠ y) p in
-      one-more i m (is-true (yAt v (i + suc m) >ᶠ y) q ∙ sym (is-true (yAt v (i + m) >ᶠ y) r)) ∙ all-passed i m p
+  none-passed : (i m : ℕ) → aboveCount y v i (suc m) ≡ 0 → insideAfter x y v n (i + suc m) ≡ insideAfter x y v n (i + 1)
+  unfolding aboveCount
+  none-passed i zero e = refl
+  none-passed i (suc m) e = one-more i m (omega arith) ∙ none-passed i m (omega arith)
 
-  none-passed : (i m : ℕ) → T (not (someAbove y v i (suc m))) → insideAfter x y v n (i + suc m) ≡ insideAfter x y v n (i + 1)
-  unfolding someAbove
-  none-passed i zero t = refl
-  none-passed i (suc m) t =
-      let p = nor-l (someAbove y v i (suc m)) (yAt v (i + suc m) >ᶠ y) t in
-      let q = nor-r (someAbove y v i (suc m)) (yAt v (i + suc m) >ᶠ y) t in
-      let r = nor-r (someAbove y v i m) (yAt v (i + m) >ᶠ y) p in
-      one-more i m (is-false (yAt v (i + suc m) >ᶠ y) q ∙ sym (is-false (yAt v (i + m) >ᶠ y) r)) ∙ none-passed i m p
+  all-passed : (i m : ℕ) → aboveCount y v i (suc m) ≡ suc m → insideAfter x y v n (i + suc m) ≡ insideAfter x y v n (i + 1)
+  unfolding aboveCount
+  all-passed i zero e = refl
+  all-passed i (suc m) e =
+      let c = at-most y v i m in
+      let p = flag-le (yAt v (i + m) >ᶠ y) in
+      let q = flag-le (yAt v (i + suc m) >ᶠ y) in
+      one-more i m (omega arith) ∙ all-passed i m (omega arith)
 
   -- the turns between m + 1 vertices on one side change nothing
   pub passed-over : (i m : ℕ) → T (onOneSide y v i (suc m)) → insideAfter x y v n (i + suc m) ≡ insideAfter x y v n (i + 1)
-  passed-over i m t = elim (or-split (allAbove y v i (suc m)) (not (someAbove y v i (suc m))) t) [
-    | inl a ↦ all-passed i m a
-    | inr b ↦ none-passed i m b
+  passed-over i m t = elim (or-split (eqb (aboveCount y v i (suc m)) 0) (eqb (aboveCount y v i (suc m)) (suc m)) t) [
+    | inl a ↦ none-passed i m (eqb→eq _ _ a)
+    | inr b ↦ all-passed i m (eqb→eq _ _ b)
   ]
 
   -- the first turn has the last vertex as j, each other the vertex before its own

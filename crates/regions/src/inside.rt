@@ -34,22 +34,19 @@ pub fn turned_by(x: f64, y: f64, inside: bool, xi: f64, yi: f64, xj: f64, yj: f6
     turned(inside, crosses(x, y, xi, yi, xj, yj))
 }
 
-// Whether the nine vertices from vertex `i` on are all above y, or all not, so that no edge between two of them is
+// Whether the seventeen vertices from vertex `i` on are all above y, or all not, so that no edge between two of them is
 // crossed. There is no branch inside.
 fn on_one_side(y: f64, v: &[f64], i: usize) -> bool
-    requires { ⌜ i + 9 ≤ length (now v) / 2 ⌝ }
-    ensures { λ r. ⌜ r ≡ onOneSide y (now (v .entry)) i 9 ⌝ }
+    requires { ⌜ i + 17 ≤ length (now v) / 2 ⌝ }
+    ensures { λ r. ⌜ r ≡ onOneSide y (now (v .entry)) i 17 ⌝ }
 {
-    let mut all = true;
-    let mut any = false;
+    let mut above = 0;
     let mut k = 0;
-    while k < 9 {
-        let above = vy(v, i + k) > y;
-        all = all & above;
-        any = any | above;
+    while k < 17 {
+        above += (vy(v, i + k) > y) as usize;
         k += 1;
     }
-    all | !any
+    (above == 0) | (above == 17)
 }
 
 // `inside` after the turns from `i` up to `e`.
@@ -67,15 +64,15 @@ fn turned_from(x: f64, y: f64, v: &[f64], i: usize, e: usize, inside: bool) -> b
     turned_over
 }
 
-// `inside` after the eight turns from `i` on, which are passed over together where no edge is crossed.
-fn turned_by_eight(x: f64, y: f64, v: &[f64], i: usize, inside: bool) -> bool
-    requires { ⌜ (0 < i) × (i + 8 ≤ length (now v) / 2) × (inside ≡ insideAfter x y (now v) (length (now v) / 2) i) ⌝ }
-    ensures { λ r. ⌜ r ≡ insideAfter x y (now (v .entry)) (length (now (v .entry)) / 2) (i + 8) ⌝ }
+// `inside` after the sixteen turns from `i` on, which are passed over together where no edge is crossed.
+fn turned_by_sixteen(x: f64, y: f64, v: &[f64], i: usize, inside: bool) -> bool
+    requires { ⌜ (0 < i) × (i + 16 ≤ length (now v) / 2) × (inside ≡ insideAfter x y (now v) (length (now v) / 2) i) ⌝ }
+    ensures { λ r. ⌜ r ≡ insideAfter x y (now (v .entry)) (length (now (v .entry)) / 2) (i + 16) ⌝ }
 {
     if on_one_side(y, v, i - 1) {
         return inside;
     }
-    turned_from(x, y, v, i, i + 8, inside)
+    turned_from(x, y, v, i, i + 16, inside)
 }
 
 pub fn point_in_polygon(x: f64, y: f64, v: &[f64]) -> bool
@@ -88,9 +85,9 @@ pub fn point_in_polygon(x: f64, y: f64, v: &[f64]) -> bool
     let j = n - 1;
     let mut inside = crosses(x, y, vx(v, 0), vy(v, 0), vx(v, j), vy(v, j));
     let mut i = 1;
-    while n - i >= 8 {
-        inside = turned_by_eight(x, y, v, i, inside);
-        i += 8;
+    while n - i >= 16 {
+        inside = turned_by_sixteen(x, y, v, i, inside);
+        i += 16;
     }
     turned_from(x, y, v, i, n, inside)
 }
