@@ -7,11 +7,11 @@ use lib.ListN.{length}
 use lib.Ieee
 use lib.Ieee.{Float}
 use borrow.Author.Tests.{le-leb}
+use Rattle.format.specs.Rows.{_unless_, _orElse_}
 use Rattle.laws.specs.Any.{all}
 use Rattle.float.specs.Ops.{1ᶠ, 2ᶠ}
 use Rattle.glyphs.specs.declared.options.ObstaclePolicy.the-variants.{Strict}
 use Rattle.discs.specs.PlaceGlyphs.{leftIn, workOf}
-use Rattle.format.specs.Rows.{_unless_, _orElse_}
 use Rattle.sheet.specs.Sheet.{Placement, readSheet}
 use Rattle.job.specs.Head.{workFault}
 use Rattle.job.specs.Job.{zonesRoom, sheetRoom, sheetFault}

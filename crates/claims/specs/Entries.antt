@@ -2,7 +2,7 @@
 -- Rests on what is claimed of the pieces and on the law of quotas: no zone has more spots than its count.
 use mathlib.Core.Path.{refl}
 use mathlib.Core.List.{List, [], _∷_, map, flatten}
-use Prim.Native.Nat.{ℕ, _-_, _≤_}
+use Prim.Native.Nat.{ℕ, _≤_}
 use native.Mathlib.Omega.{arith}
 use lib.ListN.{length, length-append}
 use lib.Ieee.{Float}

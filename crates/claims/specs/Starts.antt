@@ -2,7 +2,7 @@
 -- Rests on both being inside the piece: an exit is taken only where its clearance is the inset.
 use mathlib.Core.Bool.{Bool, true, false, not, cond, _||_}
 use mathlib.Core.List.{List, [], _∷_, foldl}
-use Prim.Native.Nat.{ℕ, _+_}
+use Prim.Native.Nat.{ℕ}
 use lib.Dec.{T, eqb, lit≤}
 use lib.ListN.{length}
 use lib.Ieee.{Float, binary64}

@@ -6,7 +6,7 @@ use mathlib.Core.Bool.{Bool, true, false, cond}
 use native.Mathlib.Omega.{arith}
 use native.Mathlib.Nat.{le-trans, one-mul, zero-add, suc-add, pow-suc, mul-le-mul, mul-le-mul-right, le-of-mul-le-mul-right}
 use lib.Dec.{T, lit<, lit≤}
-use lib.Ieee.{Float, le, ofBits, fits}
+use lib.Ieee.{Float, ofBits, fits}
 use Rattle.laws.specs.Truth.{no}
 use Rattle.float.specs.Ops.{_+ᶠ_, _-ᶠ_, _*ᶠ_, _/ᶠ_, _<ᶠ_, _≤ᶠ_, literal, 2ᶠ}
 use Rattle.float.specs.Laws.Compare.{le-self, not-lt-le}

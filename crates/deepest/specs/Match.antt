@@ -1,6 +1,6 @@
 -- The waiting cells of the slice are those of the definition's list: equal as bags, so that the heap's first is the list's first.
 -- Rests on the laws of the order of leaving.
-use Prim.Native.Nat.{ℕ, zero, suc, _+_, _-_, _<_, zero-le}
+use Prim.Native.Nat.{ℕ, zero, suc, _+_, _<_, zero-le}
 use mathlib.Core.Path.{_≡_, refl, sym, ap, _∙_, subst}
 use mathlib.Core.Logic.{_⊎_, inl, inr}
 use mathlib.Core.Bool.{Bool, true, false, cond, _&&_, Bool·beq, true≢false}

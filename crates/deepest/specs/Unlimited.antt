@@ -1,6 +1,6 @@
 -- The search without a limit on halvings answers the same as the search with it, for a piece whose outer ring lies within 1,024.
 -- Rests on the law that a cell is never split after 21 halvings, and on the sizes of places and clearances.
-use Prim.Native.Nat.{ℕ, zero, suc, _+_, _-_, _*_, _<_, _≤_}
+use Prim.Native.Nat.{ℕ, zero, suc, _+_, _*_, _<_, _≤_}
 use mathlib.Core.Path.{_≡_, refl, sym, _∙_}
 use mathlib.Core.Logic.{inl, inr}
 use mathlib.Core.Bool.{Bool, true, false, not, cond}

@@ -1,10 +1,10 @@
 // regions.rs, `poi_with_holes`.
 ghost use mathlib.Core.Path.{_≡_};
 ghost use mathlib.Core.Bool.{true};
-ghost use Prim.Native.Nat.{ℕ, _+_, _*_, _/_, _<_, _≤_};
+ghost use Prim.Native.Nat.{_+_, _*_, _/_, _<_, _≤_};
 ghost use lib.ListN.{length};
 ghost use Rattle.regions.specs.Ring.{sum, pieceOf};
-ghost use Rattle.deepest.specs.Order.{halvesFrom, boundOf};
+ghost use Rattle.deepest.specs.Order.{halvesFrom};
 ghost use Rattle.deepest.specs.Cells.{cellAt};
 ghost use Rattle.deepest.specs.Queue.{Queue, total};
 ghost use Rattle.deepest.specs.Turns.{Quartered, Explored};

@@ -1,6 +1,6 @@
 -- discs.rs, `analytic_r_hi` and `auto_radius`, with the number of trials. Definitions only.
 use mathlib.Core.Bool.{Bool, true, false, cond, _&&_}
-use mathlib.Core.List.{List, [], _∷_, foldl}
+use mathlib.Core.List.{List, foldl}
 use Prim.Native.Nat.{ℕ, zero, suc, _+_}
 use lib.Dec.{eqb}
 use lib.Ieee.{Float}

@@ -1,5 +1,5 @@
 -- How the table of refusals is read: the checks in order, and the first fault wins. A fault is its number, and 0 is none. Definitions only.
-use Prim.Native.Nat.{ℕ, zero, suc, _+_}
+use Prim.Native.Nat.{ℕ, zero, suc}
 use mathlib.Core.Bool.{Bool, cond}
 use mathlib.Core.List.{List, [], _∷_, _++_}
 

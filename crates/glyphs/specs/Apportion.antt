@@ -1,7 +1,7 @@
 -- glyphs.rs, `apportion`: a count over weights by largest remainder. Definitions only.
 use mathlib.Core.Bool.{Bool, cond, _||_}
 use mathlib.Core.List.{List, [], _∷_, map, foldl}
-use Prim.Native.Nat.{ℕ, zero, suc, _+_, _-_, compare, Ordering}
+use Prim.Native.Nat.{ℕ, _+_, _-_, compare, Ordering}
 use lib.Dec.{eqb}
 use lib.ListN.{length, take, getD, set, replicate}
 use lib.Ieee.{Float, nan, isNan}

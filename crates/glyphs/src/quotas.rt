@@ -2,8 +2,7 @@
 // source's sorted order is asked only how many indices come before one.
 ghost use mathlib.Core.Path.{_≡_};
 ghost use Prim.Native.Nat.{_≤_, _<_, _-_, _^_};
-ghost use lib.ListN.{length, getD};
-ghost use lib.Ieee.{nan};
+ghost use lib.ListN.{length};
 ghost use Rattle.laws.specs.Lists.{upTo, written};
 ghost use Rattle.laws.specs.Sorted.{rank, ifLt};
 ghost use Rattle.float.specs.Total.{totalKey};

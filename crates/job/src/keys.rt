@@ -1,6 +1,6 @@
 // The keys of zones.
 ghost use mathlib.Core.Path.{_≡_};
-ghost use Prim.Native.Nat.{_+_, _^_, _<_, _≤_};
+ghost use Prim.Native.Nat.{_+_, _<_, _≤_};
 ghost use lib.ListN.{length, take, drop};
 ghost use Rattle.format.specs.Rows.{faults};
 ghost use Rattle.job.specs.Zones.{letter, letterFault, nextByte, above, keyFault};

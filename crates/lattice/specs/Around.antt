@@ -2,11 +2,10 @@
 -- Rests on the laws of `Spread.antt`.
 use mathlib.Core.Path.{_≡_, refl, sym, ap, _∙_}
 use mathlib.Core.Bool.{Bool, true, false, not, cond, _&&_, _||_}
-use mathlib.Core.List.{List, [], _∷_, _++_}
-use Prim.Native.Nat.{ℕ, zero, suc, _+_, _-_, _/_, _≤_, _<_, min}
-use native.Mathlib.Omega.{arith}
+use mathlib.Core.List.{List, [], _++_}
+use Prim.Native.Nat.{ℕ, zero, suc, _+_, _-_, _/_, _<_, min}
 use borrow.Author.Tests.{lt-ltb, le-ltb, lt-leb, leb-true, leb-false}
-use lib.Dec.{leb, ltb, eqb}
+use lib.Dec.{leb}
 use lib.ListN.{length, take}
 use lib.Seq.{take-nil}
 use lib.Ieee.{Float}
@@ -18,7 +17,7 @@ use Rattle.glyphs.specs.Bounds.{ringBounds}
 use Rattle.glyphs.specs.Rect.{rectsFrom, rectangles, obstaclesNear}
 use Rattle.regions.specs.Ring.{Piece, outer, pieceOf, part, first-ring}
 use Rattle.lattice.specs.Context.{inset, spacing}
-use Rattle.lattice.specs.Lattice.{HexCells, noCells, at, cellsWithin, latticeValidCells, takeCells, sortByAnchor}
+use Rattle.lattice.specs.Lattice.{noCells, at, cellsWithin, latticeValidCells, takeCells, sortByAnchor}
 use Rattle.lattice.specs.Spread.{withSpacing, fieldSpacing, fieldTake, fieldPack, pack-is, trial-is}
 use Rattle.lattice.specs.Tally.{cellsOf, countsOf}
 use Rattle.lattice.specs.Uniform.{available, packLattice, anchorOf, packAround}

@@ -2,7 +2,7 @@
 -- Rests on the law of far edges, and on the least of distances being at least c where each of them is.
 use mathlib.Core.Path.{_≡_, refl, sym, ap, _∙_}
 use mathlib.Core.Bool.{Bool, true, false, not, cond, _&&_}
-use mathlib.Core.List.{List, [], _∷_, _++_, map, map-append, foldl}
+use mathlib.Core.List.{List, [], _∷_, map, map-append, foldl}
 use Prim.Native.Nat.{ℕ, zero, suc, _+_, _-_, _*_, _≤_, _<_}
 use native.Mathlib.Numerals.{add-one}
 use borrow.Author.Tests.{lt-ltb, le-ltb}
@@ -11,7 +11,8 @@ use lib.ListN.{length, getD}
 use lib.Ieee.{Float, nan, inf, fin, binary64, le, isNan, ofBits}
 use lib.Ieee.Bits.{is-true, is-false}
 use Rattle.laws.specs.Any.{all}
-use Rattle.laws.specs.Truth.{yes, no}
+use Rattle.laws.specs.Blocks.{all-last}
+use Rattle.laws.specs.Truth.{yes, no, and-true, and-assoc}
 use Rattle.float.specs.Ops.{_*ᶠ_, _<ᶠ_, _≤ᶠ_, literal, 0ᶠ, ∞}
 use Rattle.float.specs.Order.{sqrt}
 use Rattle.float.specs.Laws.Nan.{Number, lt-number}
@@ -86,20 +87,6 @@ Added y reach e m l n r =
 abbrev pub AddedRing : Float → Float → Ring → ℕ → List Float → ℕ → List Float → Type 0
 AddedRing y reach ring m l n r =
     (c x : Float) → Sure c y reach → keepsEdges x y c (edgesIn r n) ≡ (keepsEdges x y c (edgesIn l m) && keepsRing x y c ring)
-
--- ---- laws of tests
-and-true : (a : Bool) → a && true ≡ a
-and-true true = refl
-and-true false = refl
-
-and-assoc : (a b c : Bool) → (a && b) && c ≡ a && (b && c)
-and-assoc true b c = refl
-and-assoc false b c = refl
-
-all-last : {A : Type 0} (p : A → Bool) (xs : List A) (x : A) → all p (xs ++ x ∷ []) ≡ all p xs && p x
-unfolding all
-all-last p [] x = and-true (p x)
-all-last p (y ∷ ys) x = rw (all-last p ys x) (sym (and-assoc (p y) (all p ys) (p x)))
 
 -- ---- one edge more
 pub far-added : (y reach : Float) (e : Edge) (m : ℕ) (l : List Float) → Beyond y reach (e .ay) (e .by) → Added y reach e m l m l

@@ -1,7 +1,6 @@
 -- discs.rs, `escape_obstacles`: a blocked anchor moved to the nearest of the obstacles' exits. Definitions only.
 use mathlib.Core.Bool.{Bool, true, not, cond, _||_}
 use mathlib.Core.List.{List, [], _∷_, foldl}
-use Prim.Native.Nat.{Ordering, Ordering·lt, Ordering·eq, Ordering·gt}
 use lib.Ieee.{Float}
 use Rattle.laws.specs.Orders.{_thenBy_, isLt}
 use Rattle.float.specs.Ops.{_+ᶠ_, _-ᶠ_, _*ᶠ_, _<ᶠ_, 1ᶠ, ½ᶠ, literal}

@@ -4,9 +4,8 @@ use mathlib.Core.Path.{_≡_, refl, sym, ap, _∙_}
 use mathlib.Core.List.{List, [], _∷_, _++_, append-assoc}
 use Prim.Native.Nat.{ℕ, zero, suc, _+_, _-_, _*_, _≤_, _<_, min}
 use native.Mathlib.Omega.{arith}
-use native.Mathlib.Numerals.{add-one}
-use lib.ListN.{length, getD, take, drop, set, length-append, length-take, length-drop, length-set, take-append-drop, List·getD-append}
-use lib.Seq.{take-all, take-suc, drop-cons, take-at, set-at, getD-take, take-take, take-append-add, take-append-seam, length-take-le}
+use lib.ListN.{length, getD, take, drop, set, length-append, length-take, length-drop, take-append-drop, List·getD-append}
+use lib.Seq.{take-all, take-suc, drop-cons, set-at, getD-take, take-append-add, take-append-seam, length-take-le}
 use lib.Ieee.{Float, nan}
 use Rattle.laws.specs.Lists.{written}
 use Rattle.glyphs.specs.declared.rect.Point.{Point}

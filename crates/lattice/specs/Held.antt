@@ -2,8 +2,8 @@
 -- Rests on the laws of points written to a slice and read back.
 use mathlib.Core.Path.{_≡_, refl, sym, ap, _∙_, subst}
 use mathlib.Core.Bool.{true, false}
-use mathlib.Core.List.{List, [], _∷_, _++_}
-use Prim.Native.Nat.{ℕ, suc, _+_, _-_, _*_, _≤_, _<_, min}
+use mathlib.Core.List.{List, _++_}
+use Prim.Native.Nat.{ℕ, suc, _+_, _-_, _*_, _≤_, min}
 use native.Mathlib.Omega.{arith}
 use lib.ListN.{length, take, drop, length-take}
 use lib.Seq.{drop-append-add, drop-drop}

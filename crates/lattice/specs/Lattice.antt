@@ -1,7 +1,7 @@
 -- discs.rs, `lattice_valid_cells`, `sort_by_anchor` and `take_cells`. Definitions only.
-use mathlib.Core.Bool.{Bool, true, false, not, cond, _&&_, _||_}
+use mathlib.Core.Bool.{Bool, false, not, cond, _&&_, _||_}
 use mathlib.Core.List.{List, [], _∷_, _++_, map, foldr}
-use Prim.Native.Nat.{ℕ, suc, _+_, _-_, _%_, Ordering}
+use Prim.Native.Nat.{ℕ, suc, _-_, _%_, Ordering}
 use lib.Dec.{eqb, leb}
 use lib.IntN.{ℤ, pos, negsuc, _+ℤ_, _-ℤ_}
 use lib.ListN.{length, take}

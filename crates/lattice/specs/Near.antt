@@ -6,7 +6,7 @@ use mathlib.Core.List.{List, [], _∷_, _++_, append-assoc, append-nil}
 use Prim.Native.Nat.{ℕ, zero, suc, _+_, _-_, _*_, _/_, _≤_, _<_}
 use native.Mathlib.Omega.{arith}
 use native.Mathlib.Numerals.{add-one}
-use lib.ListN.{length, getD, set, take, length-set, length-take}
+use lib.ListN.{length, getD, set, take, length-set}
 use lib.Seq.{getD-set-other, getD-set-same, getD-take, length-take-le}
 use lib.Ieee.{Float, nan}
 use Rattle.glyphs.specs.declared.rect.Rectangle.{Rectangle}

@@ -1,6 +1,5 @@
 // discs.rs, `lattice_valid_cells` and `sort_by_anchor`: of the free cells and of the blocked ones those nearest to
 // the anchor, in order.
-ghost use mathlib.Core.Path.{_≡_};
 ghost use Prim.Native.Nat.{_*_, _≤_};
 ghost use lib.ListN.{length};
 ghost use Rattle.glyphs.specs.Rect.{rectangles};

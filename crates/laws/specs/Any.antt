@@ -1,6 +1,6 @@
 -- `any` and `all` over a list, and over what is left of it, for loops that count up.
 -- Rests on the kit's laws of `drop`.
-use mathlib.Core.Path.{_≡_, refl}
+use mathlib.Core.Path.{_≡_}
 use mathlib.Core.Bool.{Bool, true, false, _&&_, _||_}
 use mathlib.Core.List.{List, [], _∷_}
 use Prim.Native.Nat.{ℕ, _+_, _<_, _≤_}

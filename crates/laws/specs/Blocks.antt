@@ -1,27 +1,24 @@
 -- `all` and folds over a list that is taken block by block: the first elements, and the rest.
 -- Rests on the kit's laws of `take` and `drop`.
 use mathlib.Core.Path.{_≡_, refl, sym, ap, _∙_}
-use mathlib.Core.Bool.{Bool, true, false, _&&_}
+use mathlib.Core.Bool.{Bool, _&&_}
 use mathlib.Core.List.{List, [], _∷_, _++_, foldl, foldl-append}
 use Prim.Native.Nat.{ℕ, _+_, _<_}
 use native.Mathlib.Numerals.{add-one}
 use lib.ListN.{length, getD, take, drop, take-append-drop}
 use lib.Seq.{take-suc, drop-drop}
+use Rattle.laws.specs.Truth.{and-true, and-assoc}
 use Rattle.laws.specs.Any.{all}
-
-and-assoc : (a b c : Bool) → (a && b) && c ≡ a && (b && c)
-and-assoc true b c = refl
-and-assoc false b c = refl
-
-and-true : (a : Bool) → a && true ≡ a
-and-true true = refl
-and-true false = refl
 
 module _ {A : Type 0} (p : A → Bool) where
   pub all-append : (s t : List A) → all p (s ++ t) ≡ all p s && all p t
   unfolding all
   all-append [] t = refl
   all-append (x ∷ s) t = rw (all-append s t) (sym (and-assoc (p x) (all p s) (all p t)))
+
+  pub all-last : (s : List A) (x : A) → all p (s ++ x ∷ []) ≡ all p s && p x
+  unfolding all
+  all-last s x = rw (all-append s (x ∷ []), and-true)
 
   -- what is left from k on: the next m, and what is left after them
   pub all-block : (m k : ℕ) (l : List A) → all p (drop k l) ≡ all p (take m (drop k l)) && all p (drop (k + m) l)

@@ -1,11 +1,10 @@
 -- What holds of every element of a list, and of any two at different places; kept by parts, joins and sorting.
 -- Rests on `sortBy` being made of insertions.
-use mathlib.Core.Path.{_≡_, refl, subst, sym}
-use mathlib.Core.Bool.{Bool, true, false, cond, _&&_}
+use mathlib.Core.Bool.{Bool, true, false, _&&_}
 use mathlib.Core.List.{List, [], _∷_, _++_, map}
 use Prim.Native.Nat.{ℕ, zero, suc, Ordering, Ordering·lt, Ordering·eq, Ordering·gt}
 use lib.Dec.{T}
-use lib.ListN.{take, drop}
+use lib.ListN.{take}
 use Rattle.laws.specs.Any.{all}
 use Rattle.laws.specs.Sort.{place, insert, sortBy}
 

@@ -1,7 +1,7 @@
 -- A fold over what is left of a list, for loops that count up: a turn takes the next element, and at the end nothing is left.
 -- Rests on the kit's laws of `drop`.
-use mathlib.Core.Path.{_≡_, refl}
-use mathlib.Core.List.{List, [], _∷_, foldl}
+use mathlib.Core.Path.{_≡_}
+use mathlib.Core.List.{List, foldl}
 use Prim.Native.Nat.{ℕ, _+_, _<_, _≤_}
 use native.Mathlib.Numerals.{add-one}
 use lib.ListN.{length, getD, drop, drop-of-length-le}

@@ -1,15 +1,26 @@
--- A test's answer as a fact, `T b`, and what a test of two tests says. The other way is the kit's `is-true` and `is-false`.
+-- A test's answer as a fact, `T b`, what a test of two tests says, and a flag as a number. The other way is the kit's `is-true` and `is-false`.
 -- Assumes nothing.
-use mathlib.Core.Path.{_≡_, sym, subst}
+use mathlib.Core.Path.{_≡_, refl, sym, subst}
 use mathlib.Core.Logic.{_⊎_, inl, inr}
-use mathlib.Core.Bool.{Bool, true, false, not, _||_}
+use mathlib.Core.Bool.{Bool, true, false, not, _&&_, _||_}
+use Prim.Native.Nat.{_≤_}
+use native.Mathlib.Omega.{arith}
 use lib.Dec.{T}
+use mir.Val.{boolByte}
 
 pub yes : {b : Bool} → b ≡ true → T b
 yes h = subst T (sym h) tt
 
 pub no : {b : Bool} → b ≡ false → T (not b)
 no h = subst (λ (a : Bool). T (not a)) (sym h) tt
+
+pub and-true : (a : Bool) → a && true ≡ a
+and-true true = refl
+and-true false = refl
+
+pub and-assoc : (a b c : Bool) → (a && b) && c ≡ a && (b && c)
+and-assoc true b c = refl
+and-assoc false b c = refl
 
 pub or-split : (a b : Bool) → T (a || b) → T a ⊎ T b
 or-split true b t = inl tt
@@ -30,3 +41,8 @@ nor-l false b t = tt
 pub nor-r : (a b : Bool) → T (not (a || b)) → T (not b)
 nor-r true b t = absurd t
 nor-r false b t = t
+
+-- ---- a flag as a number
+pub flag-le : (b : Bool) → boolByte b ≤ 1
+flag-le true = omega arith
+flag-le false = omega arith

@@ -1,6 +1,6 @@
 -- The sheet of an accepted job is no longer than the room that row 14 asks for, and that is at most 34,383 bytes.
 -- Rests on the law of every sheet: no piece has more spots than its quota, and the quotas of a zone add up to its count.
-use mathlib.Core.Path.{_≡_, ap}
+use mathlib.Core.Path.{ap}
 use mathlib.Core.Bool.{Bool, true, false, cond}
 use mathlib.Core.List.{List, [], _∷_, map, flatten, flatMap}
 use Prim.Native.Nat.{ℕ, suc, _+_, _*_, _≤_}

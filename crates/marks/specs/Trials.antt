@@ -15,7 +15,6 @@ use Rattle.discs.specs.declared.ceiling.Chosen.the-variants.{None, Some}
 use Rattle.discs.specs.declared.options.Radius.{Radius}
 use Rattle.discs.specs.declared.options.Radius.the-variants.{Auto, Stated}
 use Rattle.discs.specs.declared.radius.Search.{Search}
-use Rattle.discs.specs.declared.radius.Size.{Size}
 use Rattle.discs.specs.declared.radius.Sizing.{Sizing}
 use Rattle.discs.specs.declared.radius.Sizing.the-variants.{Unplaced, At}
 use Rattle.relax.specs.declared.Spreading.{Spreading}

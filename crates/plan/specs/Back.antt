@@ -1,17 +1,17 @@
 -- Pieces that stand flat and end to end in slices are those pieces.
 -- Rests on one flat piece being that piece, and on the kit's laws of lists.
-use Prim.Native.Nat.{ℕ, suc, _+_, _*_, _≤_}
-use mathlib.Core.Path.{_≡_, refl, sym, ap, _∙_}
+use Prim.Native.Nat.{ℕ, _+_, _*_}
+use mathlib.Core.Path.{_≡_, refl, sym, ap}
 use mathlib.Core.List.{List, [], _∷_, _++_, append-assoc, map, flatten, flatMap}
 use native.Mathlib.Omega.{arith}
 use lib.ListN.{length, take, drop, length-append, length-map}
 use lib.Seq.{take-append-seam, drop-append-seam}
 use lib.Ieee.{Float}
-use Rattle.glyphs.specs.Points.{Ring, vertices}
-use Rattle.regions.specs.Ring.{Piece, pieceOf, sum}
+use Rattle.glyphs.specs.Points.{vertices}
+use Rattle.regions.specs.Ring.{Piece, sum}
 use Rattle.format.specs.Known.{All, PieceKnown}
 use Rattle.format.specs.Flat.{piece-back, vertices-sum}
-use Rattle.discs.specs.Pieces.{piecesOf, Lies, Laid}
+use Rattle.discs.specs.Pieces.{piecesOf, Laid}
 
 -- the sizes of the rings, and the coordinates, of pieces
 abbrev pub sizesIn : List Piece → List ℕ

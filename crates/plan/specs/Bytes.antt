@@ -1,16 +1,15 @@
 -- A zone's bytes in the sheet: those that the code puts are the definition's.
 -- Rests on the laws of a sheet's bytes, and on there being two floats for each spot.
 use Prim.Native.Nat.{ℕ, _+_, _-_, _*_, _/_, _≤_}
-use mathlib.Core.Path.{_≡_, refl, sym, ap, _∙_}
+use mathlib.Core.Path.{_≡_, sym, _∙_}
 use mathlib.Core.Bool.{true, false}
-use mathlib.Core.List.{List, [], _∷_, append-nil, flatten, flatMap}
+use mathlib.Core.List.{List, append-nil, flatten, flatMap}
 use native.Mathlib.Omega.{arith}
 use lib.ListN.{length, take}
 use lib.Seq.{sets, length-take-le}
 use lib.Ieee.{Float}
 use Rattle.laws.specs.Lists.{written}
 use Rattle.glyphs.specs.Spots.{flat}
-use Rattle.glyphs.specs.declared.rect.Point.{Point}
 use Rattle.glyphs.specs.declared.rect.Rectangle.{Rectangle}
 use Rattle.format.specs.Numbers.{floatBytes}
 use Rattle.sheet.specs.Sheet.{Placement, zoneHead, placementBytes}

@@ -1,14 +1,11 @@
 -- What the reader leaves of a job's zones in flat slices, zone by zone: each row is the zone's, and the pieces there are the zone's.
 -- Rests on flat pieces being those pieces.
-use Prim.Native.Nat.{ℕ, zero, suc, _+_, _*_, _<_, _≤_}
+use Prim.Native.Nat.{ℕ, suc, _+_, _*_, _<_, _≤_}
 use mathlib.Core.Path.{_≡_, refl, sym, ap, _∙_}
-use mathlib.Core.Bool.{Bool}
-use mathlib.Core.List.{List, [], _∷_, _++_, append-assoc, map, flatten, flatMap}
+use mathlib.Core.List.{List, [], _∷_, _++_, append-assoc, map, flatMap}
 use native.Mathlib.Omega.{arith}
-use native.Mathlib.Numerals.{add-one}
 use lib.ListN.{length, getD, take, drop, length-append, length-drop, length-map}
 use lib.Ieee.{Float}
-use Rattle.glyphs.specs.Points.{vertices}
 use Rattle.regions.specs.Ring.{Piece, sum}
 use Rattle.format.specs.Known.{All, PieceKnown}
 use Rattle.format.specs.RowLaws.{behind}
@@ -16,7 +13,7 @@ use Rattle.discs.specs.declared.rows.Row.{Row}
 use Rattle.discs.specs.declared.rows.Offsets.{Offsets}
 use Rattle.discs.specs.Region.{Zone, quotas}
 use Rattle.discs.specs.PlaceGlyphs.{leftIn}
-use Rattle.discs.specs.Pieces.{piecesOf, Laid}
+use Rattle.discs.specs.Pieces.{Laid}
 use Rattle.discs.specs.Floor.{rowOf, rowIsLeftIn, cut, pastRow, EachRow}
 use Rattle.job.specs.Job.{coordsOf, sizesOf, ringsOf}
 use Rattle.job.specs.Rows.{IsRow}

@@ -1,6 +1,6 @@
 -- What the flat slices hand in is each zone's own: its key, count and pieces, its quotas, and what the searches found.
 -- Rests on what the reader leaves, and on quotas and deepest points standing zone after zone.
-use Prim.Native.Nat.{ℕ, zero, suc, _+_, _*_}
+use Prim.Native.Nat.{ℕ, _+_, _*_}
 use mathlib.Core.Path.{_≡_, refl, sym, ap, _∙_}
 use mathlib.Core.List.{List, [], _∷_, _++_, append-assoc, map, flatMap}
 use native.Mathlib.Omega.{arith}

@@ -1,12 +1,9 @@
 -- A zone that is left in, and whose searches had room, is handed in as its packing needs it: with its own quotas and deepest points.
 -- Rests on a deepest point coming back from its three floats.
 use Prim.Native.Nat.{ℕ}
-use mathlib.Core.Path.{_≡_, refl, sym, ap, _∙_}
-use mathlib.Core.Bool.{Bool, true, cond}
-use mathlib.Core.List.{List, [], _∷_, map}
-use native.Mathlib.Omega.{arith}
-use lib.ListN.{length}
-use lib.Ieee.{Float}
+use mathlib.Core.Path.{_≡_, refl}
+use mathlib.Core.Bool.{Bool, true}
+use mathlib.Core.List.{List, [], _∷_}
 use Rattle.laws.specs.Any.{all}
 use Rattle.float.specs.Ops.{_>ᶠ_, 0ᶠ}
 use Rattle.glyphs.specs.declared.options.GlyphArrangement.{GlyphArrangement}
@@ -21,7 +18,7 @@ use Rattle.discs.specs.PieceLaws.{Own}
 use Rattle.discs.specs.PlaceGlyphs.{leftIn}
 use Rattle.discs.specs.Searches.{startsDeepest, isSearched, searched, searchesIn, hadRoom}
 use Rattle.discs.specs.FloorLaws.{OwnPacking}
-use Rattle.plan.specs.Found.{foundFor, foundIn}
+use Rattle.plan.specs.Found.{foundIn}
 use Rattle.plan.specs.Own.{foundOf, ownOf}
 use Rattle.plan.specs.Read.{left-in-found}
 use Rattle.plan.specs.Sound.{sound, Sound, sound-nothing, sound-cond, point-sound, both-true, points-back}

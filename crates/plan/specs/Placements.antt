@@ -1,7 +1,7 @@
 -- The zones that are put into the sheet are those of the definition, where each is packed as its own.
 -- Rests on what the flat slices hand in being each zone's own.
 use Prim.Native.Nat.{ℕ, _+_}
-use mathlib.Core.Path.{_≡_, refl, ap, _∙_}
+use mathlib.Core.Path.{_≡_, refl}
 use mathlib.Core.Bool.{Bool, true, false, cond}
 use mathlib.Core.List.{List, [], _∷_, _++_, map}
 use lib.ListN.{length}

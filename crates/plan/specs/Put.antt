@@ -1,8 +1,8 @@
 -- What is put beside the zones that the reader leaves, quotas and deepest points, stands zone after zone; and the searches that had room are those of the zones.
 -- Rests on what is put for a row being the zone's own, and on the slices being long enough.
-use Prim.Native.Nat.{ℕ, _+_, _*_, _≤_}
+use Prim.Native.Nat.{ℕ, _*_, _≤_}
 use mathlib.Core.Path.{_≡_, refl, sym, ap, _∙_}
-use mathlib.Core.List.{List, [], _∷_, _++_, append-nil, map, flatMap}
+use mathlib.Core.List.{List, [], _∷_, _++_, append-nil, flatMap}
 use native.Mathlib.Omega.{arith}
 use lib.ListN.{length, drop, length-append, length-map}
 use lib.Seq.{sets}

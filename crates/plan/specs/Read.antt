@@ -1,9 +1,9 @@
 -- What the reader leaves is the job's zones, and what the pre-pass finds over the rows is found over the zones: row 15 is the definition's.
 -- Rests on the rows being the zones', and on one zone's share of each slice.
-use Prim.Native.Nat.{ℕ, zero, suc, _+_, _*_, _<_}
-use mathlib.Core.Path.{_≡_, refl, sym, ap, _∙_}
-use mathlib.Core.Bool.{Bool, true, false, cond, _&&_}
-use mathlib.Core.List.{List, [], _∷_, _++_, flatMap}
+use Prim.Native.Nat.{ℕ, _+_, _<_}
+use mathlib.Core.Path.{_≡_, refl}
+use mathlib.Core.Bool.{Bool, true, false}
+use mathlib.Core.List.{List, [], _∷_, flatMap}
 use native.Mathlib.Omega.{arith}
 use lib.ListN.{length, drop}
 use lib.Ieee.{Float}
@@ -17,7 +17,7 @@ use Rattle.discs.specs.declared.options.GlyphOptions.{GlyphOptions}
 use Rattle.discs.specs.declared.rows.Offsets.{Offsets}
 use Rattle.discs.specs.Region.{Zone, quotas}
 use Rattle.discs.specs.PlaceGlyphs.{leftIn, workOf}
-use Rattle.discs.specs.Searches.{searched, searchesIn, hadRoom}
+use Rattle.discs.specs.Searches.{searchesIn, hadRoom}
 use Rattle.discs.specs.Floor.{rowOf, pastRow, start}
 use Rattle.job.specs.Zones.{zone, zoneEnd}
 use Rattle.job.specs.Job.{Job, zonesAt, zones, itemsFault, jobOf, coordsOf, sizesOf, ringsOf, rowsOf}

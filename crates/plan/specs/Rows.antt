@@ -1,11 +1,10 @@
 -- The walk over a job's zones in flat slices: what is put and asked for each, and what is known of each. Definitions, and one turn of the walk.
 -- Rests on the kit's laws of lists.
 use Prim.Native.Nat.{ℕ, zero, suc, _+_, _-_, _*_, _<_, _≤_}
-use mathlib.Core.Path.{_≡_, refl, sym, ap, _∙_}
+use mathlib.Core.Path.{_≡_, refl, ap, _∙_}
 use mathlib.Core.Bool.{Bool, true, false, _&&_}
 use mathlib.Core.List.{List, [], _∷_, _++_, flatMap}
 use native.Mathlib.Omega.{arith}
-use native.Mathlib.Numerals.{add-one}
 use lib.ListN.{length, take, drop, length-append, length-drop}
 use lib.Seq.{sets, length-take-le}
 use lib.Ieee.{Float}
@@ -21,7 +20,7 @@ use Rattle.discs.specs.Region.{areas}
 use Rattle.discs.specs.Pieces.{piecesOf, Laid}
 use Rattle.discs.specs.Searches.{hadRoom}
 use Rattle.discs.specs.Floor.{rowOf, rowIsLeftIn, cut, pastRow, EachRow}
-use Rattle.plan.specs.Found.{foundIn, threeOf, allThree}
+use Rattle.plan.specs.Found.{foundIn, allThree}
 use Rattle.plan.specs.Walk.{length-three, length-pieces}
 use Rattle.plan.specs.Shares.{length-apportion, length-areas}
 

@@ -1,7 +1,7 @@
 -- The areas and the shares that lie at the front of what holds them.
 -- Rests on the kit's laws of lists and on there being one quota for each weight.
 use Prim.Native.Nat.{ℕ, _≤_}
-use mathlib.Core.Path.{_≡_, sym, ap, _∙_}
+use mathlib.Core.Path.{_≡_, ap, _∙_}
 use mathlib.Core.List.{List, append-nil}
 use native.Mathlib.Omega.{arith}
 use lib.ListN.{length, take, replicate, length-map, length-replicate, drop-of-length-le}

@@ -3,11 +3,10 @@ use Prim.Native.Nat.{ℕ}
 use mathlib.Core.Path.{_≡_}
 use mathlib.Core.List.{List}
 use lib.ListN.{length}
-use lib.Ieee.{Float}
 use Rattle.laws.specs.Lists.{written}
 use Rattle.float.specs.Ops.{0ᶠ}
 use Rattle.glyphs.specs.declared.rect.Rectangle.{Rectangle}
-use Rattle.sheet.specs.Sheet.{Placement, Sheet, sheetOf}
+use Rattle.sheet.specs.Sheet.{Placement, sheetOf}
 use Rattle.discs.specs.declared.ceiling.Chosen.{Chosen}
 use Rattle.discs.specs.declared.ceiling.Chosen.the-variants.{None}
 use Rattle.discs.specs.declared.options.GlyphOptions.{GlyphOptions}

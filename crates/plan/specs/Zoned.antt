@@ -22,7 +22,7 @@ use Rattle.discs.specs.Searches.{hadRoom}
 use Rattle.discs.specs.Floor.{EachRow, Floor, Lends, start, workIn}
 use Rattle.job.specs.Job.{Job, jobOf}
 use Rattle.job.specs.Known.{RadiusKnown, job-known}
-use Rattle.job.specs.Plan.{searchFault, ceilingFault, lowFault, placementsOf}
+use Rattle.job.specs.Plan.{searchFault, ceilingFault, lowFault}
 use Rattle.plan.specs.declared.answer.Answer.{Answer}
 use Rattle.plan.specs.Rows.{Readable, flatRows, allRows, sharesAt, fitsAt, threesAt}
 use Rattle.plan.specs.Found.{Searched}
@@ -35,7 +35,7 @@ use Rattle.plan.specs.Put.{fits-put, filled-put}
 use Rattle.plan.specs.Asked.{floor-is, all-fair}
 use Rattle.plan.specs.Made.{Roomy}
 use Rattle.plan.specs.Whole.{sized, put, low-is, sheet-is, free-is, walled-is}
-use Rattle.plan.specs.Called.{ReadIn, Answered, givenBy}
+use Rattle.plan.specs.Called.{ReadIn, Answered}
 
 same-answer :
     (a b : Sheet) (free free' walled walled' : ℕ) → a ≡ b → free ≡ free' → walled ≡ walled'

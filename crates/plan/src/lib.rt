@@ -1,6 +1,5 @@
 // The call from job bytes to sheet.
 ghost use mathlib.Core.Path.{_≡_};
-ghost use Prim.Native.Nat.{_≤_};
 ghost use lib.ListN.{length};
 ghost use Rattle.job.specs.Head.{lentFault};
 ghost use Rattle.job.specs.Plan.{planOf};

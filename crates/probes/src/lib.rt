@@ -8,7 +8,6 @@ ghost use Rattle.glyphs.specs.Spots.{spotsOf, flat};
 ghost use Rattle.regions.specs.Ring.{sum, pieceOf};
 ghost use Rattle.regions.specs.Area.{pieceArea};
 ghost use Rattle.regions.specs.Clearance.{signedClearance};
-ghost use Rattle.regions.specs.Inside.{pointInPolygon};
 ghost use Rattle.relax.specs.Scatter.{source, relaxScatter};
 use deepest::search::Deepest;
 use glyphs::bounds::Bounds;

@@ -1,6 +1,6 @@
 -- Stopping early changes no answer of 'the clearance is at least c'.
 -- Rests on the root's being monotone, and on `≤` of floats being transitive.
-use Prim.Native.Nat.{ℕ, zero, suc, _+_, _≤_, _<_, zero-le}
+use Prim.Native.Nat.{ℕ, zero, suc, _+_, _≤_, zero-le}
 use mathlib.Core.Path.{_≡_, refl, sym, ap, _∙_, subst}
 use mathlib.Core.Logic.{_⊎_, inl, inr}
 use mathlib.Core.Bool.{Bool, true, false, cond}

@@ -8,7 +8,7 @@ use native.Mathlib.Omega.{arith}
 use lib.Dec.{T, eqb, eqb→eq}
 use lib.Ieee.{Float}
 use mir.Val.{boolByte}
-use Rattle.laws.specs.Truth.{or-split}
+use Rattle.laws.specs.Truth.{or-split, flag-le}
 use Rattle.float.specs.Ops.{_>ᶠ_}
 use Rattle.glyphs.specs.Points.{Ring, xAt, yAt}
 use Rattle.regions.specs.Ring.{prev}
@@ -22,11 +22,7 @@ aboveCount y v i (suc m) = aboveCount y v i m + boolByte (yAt v (i + m) >ᶠ y)
 abbrev pub onOneSide : Float → Ring → ℕ → ℕ → Bool
 onOneSide y v i m = eqb (aboveCount y v i m) 0 || eqb (aboveCount y v i m) m
 
--- a flag is at most 1, and a count at most the number of vertices looked at
-pub flag-le : (b : Bool) → boolByte b ≤ 1
-flag-le true = omega arith
-flag-le false = omega arith
-
+-- it is at most the number of vertices looked at
 pub at-most : (y : Float) (v : Ring) (i m : ℕ) → aboveCount y v i m ≤ m
 unfolding aboveCount
 at-most y v i zero = omega arith

@@ -1,6 +1,6 @@
 -- How large a clearance is: where the outer ring's vertices lie within 1,024 and the place within 15,360, at most 26,067.
 -- Rests on the rounding laws of sizes.
-use Prim.Native.Nat.{ℕ, zero, suc, _+_, _-_, _*_, _^_, _<_, _≤_}
+use Prim.Native.Nat.{ℕ, zero, suc, _+_, _*_, _^_, _<_, _≤_}
 use mathlib.Core.Path.{_≡_, refl, sym, subst}
 use mathlib.Core.Bool.{Bool, true, false, cond}
 use mathlib.Core.List.{List, [], _∷_, foldl}

@@ -2,7 +2,6 @@
 ghost use mathlib.Core.Path.{_≡_};
 ghost use Prim.Native.Nat.{_*_, _<_, _≤_};
 ghost use lib.ListN.{length};
-ghost use lib.Ieee.{neg};
 ghost use Rattle.regions.specs.Ring.{sum, pieceOf};
 ghost use Rattle.regions.specs.Clearance.{along, edgeSquare, closer, within, minDistToRings, signedClearance};
 ghost use Rattle.regions.specs.Squares.{leastOfRing, leastOfRings};

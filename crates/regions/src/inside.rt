@@ -2,7 +2,6 @@
 ghost use mathlib.Core.Path.{_≡_};
 ghost use Prim.Native.Nat.{_+_, _/_, _≤_, _<_};
 ghost use lib.ListN.{length};
-ghost use lib.Ieee.{Float};
 ghost use Rattle.regions.specs.Inside.{intersect, flip, insideAfter, pointInPolygon};
 ghost use Rattle.regions.specs.Sides.{onOneSide};
 use glyphs::points::vx;

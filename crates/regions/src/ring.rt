@@ -1,6 +1,6 @@
 // Walking round a ring, and taking one out of a piece.
 ghost use mathlib.Core.Path.{_≡_};
-ghost use Prim.Native.Nat.{ℕ, _+_, _*_, _<_, _≤_};
+ghost use Prim.Native.Nat.{_+_, _*_, _<_, _≤_};
 ghost use lib.ListN.{length};
 ghost use Rattle.regions.specs.Ring.{next, prev, part};
 

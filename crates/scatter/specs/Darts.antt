@@ -14,7 +14,6 @@ use Rattle.float.specs.Ops.{_*ᶠ_, _≥ᶠ_}
 use Rattle.glyphs.specs.declared.bounds.Bounds.{Bounds}
 use Rattle.glyphs.specs.declared.bounds.Bounds.the-variants.{Box, Nothing}
 use Rattle.glyphs.specs.declared.bounds.Extents.{Extents}
-use Rattle.glyphs.specs.declared.mode.PackMode.{PackMode}
 use Rattle.glyphs.specs.declared.rect.Point.{Point}
 use Rattle.glyphs.specs.declared.rect.Rectangle.{Rectangle}
 use Rattle.glyphs.specs.declared.stream.Sample.{Sample}

@@ -1,6 +1,6 @@
 -- discs.rs, `pack_low_discrepancy_piece`: a Halton sequence filtered by clearance and spacing. Definitions only.
 use mathlib.Core.Bool.{Bool, true, false, not, cond, _&&_, _||_}
-use mathlib.Core.List.{List, [], _∷_, _++_, foldl}
+use mathlib.Core.List.{List, [], _∷_, _++_}
 use Prim.Native.Nat.{ℕ, zero, suc, _+_, _*_, min, max}
 use lib.Dec.{eqb}
 use lib.IntN.{ℤ, pos, negsuc, sucℤ, predℤ}
@@ -10,7 +10,6 @@ use Rattle.laws.specs.Any.{all}
 use Rattle.float.specs.Ops.{_+ᶠ_, _-ᶠ_, _*ᶠ_, _/ᶠ_, _≥ᶠ_, ε}
 use Rattle.float.specs.Order as Float
 use Rattle.float.specs.Whole.{floor, as-i64}
-use Rattle.glyphs.specs.declared.mode.PackMode.{PackMode}
 use Rattle.glyphs.specs.declared.rect.Point.{Point}
 use Rattle.glyphs.specs.declared.rect.Rectangle.{Rectangle}
 use Rattle.glyphs.specs.declared.bounds.Bounds.{Bounds}

@@ -7,11 +7,9 @@ use lib.ListN.{length}
 use lib.Ieee.{Float}
 use Rattle.laws.specs.Any.{all}
 use Rattle.float.specs.Ops.{_*ᶠ_, _≥ᶠ_}
-use Rattle.glyphs.specs.declared.mode.PackMode.{PackMode}
 use Rattle.glyphs.specs.declared.rect.Point.{Point}
 use Rattle.glyphs.specs.declared.rect.Rectangle.{Rectangle}
 use Rattle.glyphs.specs.declared.stream.Stream.{Stream}
-use Rattle.glyphs.specs.declared.stream.Sample.{Sample}
 use Rattle.glyphs.specs.declared.bounds.Bounds.{Bounds}
 use Rattle.glyphs.specs.declared.bounds.Bounds.the-variants.{Box, Nothing}
 use Rattle.glyphs.specs.Bounds.{ringBounds}

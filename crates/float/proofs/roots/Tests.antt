@@ -6,16 +6,13 @@ use mathlib.Core.Bool.{true, false, not}
 use Prim.Native.Nat.{zero, suc, _≤_, _<_}
 use native.Mathlib.Nat.{eq-zero-or-pos, not-le-of-lt}
 use lib.Dec.{T, T-not}
-use lib.Ieee.{Float, nan, inf, fin, binary64, fits, isNan, nanBits, ofBits, toBits, lt, eq, div}
-use lib.Ieee.Bits.{ofBits-toBits, nanBits-is}
+use lib.Ieee.{Float, nan, inf, fin, binary64, fits, ofBits, toBits, lt, eq, div}
+use lib.Ieee.Bits.{ofBits-toBits}
 use Rattle.laws.specs.Truth.{yes, no}
 use Rattle.float.specs.Root.{rootOf}
-use Rattle.float.specs.Laws.Nan.{Number, lt-number, le-number}
-use Rattle.float.specs.Laws.Compare.{lt-le}
+use Rattle.float.specs.Laws.Nan.{Number, lt-number}
 use Rattle.float.specs.Laws.Zero.{origin, origin-is, zero-not-above, zero-equal, positive-above, nonzero-unequal}
-use Rattle.float.specs.Laws.Fits.{rootOf-fits}
 use Rattle.float.specs.Laws.Pattern.{finite-pattern}
-use Rattle.float.specs.Laws.Monotone.{root-above}
 
 -- ---- the test `x > 0.0`
 abbrev Above : Float → Type 0

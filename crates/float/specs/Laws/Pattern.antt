@@ -4,7 +4,7 @@ use mathlib.Core.Path.{_≡_, refl, sym, ap, _∙_, subst}
 use mathlib.Core.Logic.{inl, inr}
 use mathlib.Core.Bool.{Bool, true, false, not, _&&_, cond}
 use Prim.Native.Nat.{ℕ, zero, suc, _+_, _-_, _*_, _/_, _%_, _^_, _≤_, _<_}
-use native.Mathlib.Nat.{le-refl, le-trans, le-of-eq, le-of-lt, lt-of-lt-of-le, lt-of-le-of-lt, eq-or-lt-of-le, mul-pos, mul-right-comm, zero-mul, mul-le-mul-right, mul-lt-mul-of-pos-right, div-lt-iff-lt-mul, le-div-iff-mul-le}
+use native.Mathlib.Nat.{le-refl, le-trans, le-of-eq, le-of-lt, lt-of-lt-of-le, lt-of-le-of-lt, not-le-of-lt, eq-or-lt-of-le, mul-pos, mul-right-comm, zero-mul, mul-le-mul-right, mul-lt-mul-of-pos-right, div-lt-iff-lt-mul, le-div-iff-mul-le}
 use native.Mathlib.Omega.{arith}
 use lib.IntN.{ℤ}
 use lib.Dec.{T, leb, ltb, eqb, ltb→lt, not-T}
@@ -80,14 +80,14 @@ abs-pattern x h n = rw (pattern-sign x) (cleared (negative x) (toBits binary64 (
     cleared false t h = omega arith
 
 -- it is no NaN's
-pub no-nan : (n : ℕ) → n ≤ 0x7ff0_0000_0000_0000 → T (not (nanBits binary64 n))
-no-nan n h = not-T (nanBits binary64 n) (λ (t : T (nanBits binary64 n)). clash (ltb→lt (2047 * 2 ^ 52) (n % 2 ^ 63) (subst T (nanBits-above binary64 n) t)))
-  where
-    clash : 2047 * 2 ^ 52 < n % 2 ^ 63 → ⊥
-    clash k = omega arith
+pub no-nan : (n : ℕ) → n % 2 ^ 63 ≤ 0x7ff0_0000_0000_0000 → T (not (nanBits binary64 n))
+no-nan n h = not-T (nanBits binary64 n) (λ (t : T (nanBits binary64 n)). not-le-of-lt (ltb→lt (2047 * 2 ^ 52) (n % 2 ^ 63) (subst T (nanBits-above binary64 n) t)) h)
+
+pub own-pattern : (x : Float) → T (fits binary64 x) → Number x → T (not (nanBits binary64 (toBits binary64 x)))
+own-pattern x h n = no-nan (toBits binary64 x) (rw (abs-pattern x h n) (pattern-most x h n))
 
 pub pattern-number : (x : Float) → T (fits binary64 x) → Number x → T (not (nanBits binary64 (toBits binary64 x % 2 ^ 63)))
-pattern-number x h n = rw (abs-pattern x h n) (no-nan (toBits binary64 (abs x)) (pattern-most x h n))
+pattern-number x h n = rw (abs-pattern x h n) (no-nan (toBits binary64 (abs x)) (omega (arith, pattern-most x h n)))
 
 -- ---- patterns are ordered as the sizes are
 -- the pattern of n of the smallest value, 2 ^ -1074

@@ -1,18 +1,17 @@
 -- A pattern with its sign turned over is that of the value with its sign turned over.
 -- Rests on `Pattern.antt`.
-use mathlib.Core.Path.{_≡_, refl, subst}
+use mathlib.Core.Path.{_≡_, refl}
 use mathlib.Core.Bool.{Bool, true, false, not, cond}
-use Prim.Native.Nat.{ℕ, _+_, _*_, _%_, _^_, _≤_, _<_}
+use Prim.Native.Nat.{ℕ, _+_, _%_, _^_, _≤_}
 use native.Mathlib.Omega.{arith}
-use lib.Dec.{T, ltb→lt, not-T}
+use lib.Dec.{T}
 use lib.Ieee.{Float, nan, inf, fin, binary64, fits, isNan, neg, nanBits, toBits}
-use lib.Ieee.Bits.{nanBits-above}
 use lib.Ieee.Fits.{neg-fits}
 use Rattle.float.specs.Order.{abs}
 use Rattle.float.specs.Laws.Nan.{Number}
 use Rattle.float.specs.Laws.Compare.{neg-number}
 use Rattle.float.specs.Laws.Order.{abs-neg}
-use Rattle.float.specs.Laws.Pattern.{negative, pattern-sign, pattern-most, abs-pattern}
+use Rattle.float.specs.Laws.Pattern.{negative, pattern-sign, pattern-most, own-pattern}
 
 neg-sign : (x : Float) → Number x → negative (neg x) ≡ not (negative x)
 unfolding neg isNan
@@ -40,14 +39,6 @@ turned-fits x false f = neg-fits binary64 x f
 turned-number : (x : Float) (b : Bool) → Number x → Number (cond b x (neg x))
 turned-number x true n = n
 turned-number x false n = neg-number x n
-
-own-pattern : (x : Float) → T (fits binary64 x) → Number x → T (not (nanBits binary64 (toBits binary64 x)))
-own-pattern x f n =
-    not-T (nanBits binary64 (toBits binary64 x))
-    (λ (t : T (nanBits binary64 (toBits binary64 x))). clash (ltb→lt (2047 * 2 ^ 52) (toBits binary64 x % 2 ^ 63) (subst T (nanBits-above binary64 (toBits binary64 x)) t)))
-  where
-    clash : 2047 * 2 ^ 52 < toBits binary64 x % 2 ^ 63 → ⊥
-    clash k = omega (arith, rw (abs-pattern x f n) at k, pattern-most x f n)
 
 -- it is no NaN's
 pub turned-no-nan :

@@ -5,7 +5,6 @@ use mathlib.Core.Path.{_≡_}
 use lib.ListN.{length}
 use borrow.Author.Needs.{needs}
 use Rattle.regions.specs.Margin.{marginOf, margin-own}
-use Rattle.regions.specs.declared.margin.Margin.{Margin}
 use Rattle.probes.proofs.probe_count_clear.Statement.{statement}
 use Rattle.probes.proofs.probe_count_clear.Tie as tie
 

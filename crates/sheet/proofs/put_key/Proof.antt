@@ -1,7 +1,7 @@
 -- `put_key` copies bytes. Invariant: what is left of them is still to be put.
 -- Rests on one turn of a copy.
 use mathlib.Core.Path.{_≡_}
-use Prim.Native.Nat.{_+_, _-_, _≤_}
+use Prim.Native.Nat.{_+_, _≤_}
 use native.Mathlib.Omega.{arith}
 use lib.ListN.{length, take, drop}
 use lib.ListN.{length-set}

@@ -1,7 +1,6 @@
 -- `put_zone` writes what stands before the spots of a zone.
 -- Rests on what its calls ensure, part after part.
 use mathlib.Core.Path.{_≡_, refl}
-use Prim.Native.Nat.{_-_}
 use native.Mathlib.Omega.{arith}
 use lib.ListN.{length, take, drop}
 use Rattle.sheet.specs.Laws.{put-zone-head}

@@ -1,10 +1,9 @@
 -- `analytic_r_hi` meets its contract. The invariant: the answer is that of the zones left, from `r_hi` on.
 -- Rests on a turn over zones.
 use Prim.Native.Nat.{ℕ, _≤_, _-_}
-use mathlib.Core.Path.{_≡_, refl, ap, sym, _∙_}
+use mathlib.Core.Path.{_≡_, ap, sym, _∙_}
 use mathlib.Core.List.{List, foldl}
 use native.Mathlib.Omega.{arith}
-use lib.Ieee.{Float}
 use Rattle.float.specs.Ops.{∞}
 use Rattle.glyphs.specs.Rect.{infinite}
 use Rattle.discs.specs.Radius.{ifPositive}

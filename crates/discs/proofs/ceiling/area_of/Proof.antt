@@ -1,12 +1,12 @@
 -- `area_of` meets its contract. The invariant: the answer is that of the pieces left, from `area` on.
 -- Rests on a turn over a zone's pieces.
-use Prim.Native.Nat.{_≤_, _+_, _-_, _*_}
+use Rattle.float.specs.Ops.{_+ᶠ_}
+use Prim.Native.Nat.{_≤_, _-_, _*_}
 use mathlib.Core.Path.{_≡_, sym, _∙_}
 use mathlib.Core.List.{foldl}
 use native.Mathlib.Omega.{arith}
 use lib.ListN.{length, getD, take, drop, length-drop}
 use Rattle.regions.specs.Ring.{sum}
-use Rattle.float.specs.Ops.{_+ᶠ_}
 use Rattle.regions.specs.Area.{minus-zero}
 use Rattle.discs.specs.Region.{areas}
 use Rattle.discs.specs.Radius.{areaOf}

@@ -1,6 +1,6 @@
 -- `deepest_in` meets its contract. The invariant: the answer is that of the points left, from `best` on.
 -- Rests on a turn over deepest points.
-use Prim.Native.Nat.{_≤_, _-_, _+_, _*_, _/_}
+use Prim.Native.Nat.{_≤_, _-_, _*_, _/_}
 use mathlib.Core.Path.{_≡_, refl, sym, _∙_}
 use mathlib.Core.List.{foldl}
 use native.Mathlib.Omega.{arith}

@@ -1,7 +1,7 @@
 -- `auto_radius` meets its contract. The invariant: the answer is that of the search left.
 -- Rests on the turns of the search.
 use Prim.Native.Nat.{_≤_, _-_}
-use mathlib.Core.Path.{_≡_, refl, sym, _∙_}
+use mathlib.Core.Path.{_≡_, sym, _∙_}
 use native.Mathlib.Omega.{arith}
 use lib.ListN.{length}
 use Rattle.glyphs.specs.Rect.{rectangles}

@@ -2,7 +2,6 @@
 -- Rests on the definition alone.
 use Rattle.laws.specs.Choice.{picks}
 use Rattle.discs.specs.Walk.{narrowed}
-use borrow.Author.Needs.{needs}
 use Rattle.discs.proofs.radius.narrowed.Statement.{statement}
 use Rattle.discs.proofs.radius.narrowed.Tie as tie
 

@@ -1,6 +1,6 @@
 -- `past_row` meets its contract.
 -- Rests on what a zone's pieces are known to hold, and on the parts that the code cuts.
-use Prim.Native.Nat.{_+_, _*_}
+use Prim.Native.Nat.{_*_}
 use mathlib.Core.Path.{_≡_, _∙_}
 use native.Mathlib.Omega.{arith}
 use lib.ListN.{take, drop, length-drop}

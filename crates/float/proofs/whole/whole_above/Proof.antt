@@ -1,12 +1,14 @@
 -- `float::whole_above` meets its contract: the cut value, and one more where it lies below x.
 -- Rests on `Whole.antt` and the contract of the kit's cut.
 use mathlib.Core.Bool.{false}
-use Prim.Native.Nat.{_<_, _^_}
+use Prim.Native.Nat.{ℕ, _+_, _^_, _≤_, _<_}
 use native.Mathlib.Nat.{le-of-lt}
 use native.Mathlib.Omega.{arith}
+use mir.Syntax.{w64}
+use mir.Val.{Fits}
 use borrow.Author.Needs.{needs}
 use Rattle.laws.specs.Casts.{in-float}
-use Rattle.float.proofs.Flag.{flag-le, sum-fits}
+use Rattle.laws.specs.Truth.{flag-le}
 use Rattle.float.proofs.whole.Whole.{Sized, above-sized, cut-asks, cut-lt, cut-above}
 use Rattle.float.proofs.whole.whole_above.Statement.{statement}
 use Rattle.float.proofs.whole.whole_above.Tie as tie
@@ -26,8 +28,11 @@ int-to-float-result c = in-float _ (le-of-lt (small (c .before)))
 cast-result : tie.Need-cast-result
 cast-result c = search needs
 
+sum-fits : (n d : ℕ) → n < 2 ^ 53 → d ≤ 1 → Fits w64 (n + d)
+sum-fits n d h k = record { fits = omega arith }
+
 add-result : tie.Need-add-result
-add-result c = sum-fits _ _ (omega (arith, small (c .before))) (search flag-le)
+add-result c = sum-fits _ _ (small (c .before)) (search flag-le)
 
 returns : tie.Need-returns
 returns c = cut-above (c .before .before .args .x) (c .before .truncating-f64-to-u64 .result) (c .before .truncating-f64-to-u64 .ensures) (sized (c .before .before))

@@ -1,7 +1,7 @@
 -- `pieces` reads pieces one after the other. Invariant: what is left of them is at the place come to, and is still to be put.
 -- Rests on what `piece` ensures and one turn of a run.
 use mathlib.Core.Path.{_≡_, sym, _∙_}
-use Prim.Native.Nat.{_+_, _-_, _*_, _<_, _≤_}
+use Prim.Native.Nat.{_+_, _*_, _<_, _≤_}
 use native.Mathlib.Omega.{arith}
 use lib.ListN.{length}
 use lib.Seq.{sets}

@@ -1,7 +1,7 @@
 -- `put_uint` writes a number's bytes, the last first. Invariant: what is left to write, over what is written, is all of them.
 -- Rests on `put-last`.
 use mathlib.Core.Path.{_≡_}
-use Prim.Native.Nat.{_-_, _≤_}
+use Prim.Native.Nat.{_≤_}
 use native.Mathlib.Omega.{arith}
 use lib.ListN.{length}
 use lib.Seq.{sets}

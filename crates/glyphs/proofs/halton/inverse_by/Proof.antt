@@ -1,7 +1,6 @@
 -- `inverse_by` is the radical inverse. Invariant: the digits left, from the value so far and the weight of the next, give it.
 -- Rests on the law of a turn, and on an index having at most 64 digits.
 use mathlib.Core.Path.{_≡_, refl, sym, _∙_}
-use Prim.Native.Nat.{_<_}
 use native.Mathlib.Omega.{arith}
 use native.Mathlib.Nat.{div-lt-self, mod-lt}
 use borrow.Author.Needs.{needs}

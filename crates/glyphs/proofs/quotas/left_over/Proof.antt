@@ -1,6 +1,6 @@
 -- `left_over` takes each floor off the count. Invariant: what the floors left take off the rest is what is left over.
 -- Rests on the laws of a fold.
-use mathlib.Core.Path.{_≡_, refl}
+use mathlib.Core.Path.{_≡_}
 use mathlib.Core.List.{foldl}
 use Prim.Native.Nat.{_≤_, _-_}
 use lib.ListN.{length, drop}

@@ -1,6 +1,6 @@
 -- `quota_of` is the quota of one piece: all or nothing without weight, else its floor and one by its rank.
 -- Rests on what `whole_share`, `rank_of` and `first_only` ensure.
-use mathlib.Core.Path.{refl, sym, _∙_}
+use mathlib.Core.Path.{sym, _∙_}
 use native.Mathlib.Omega.{arith}
 use lib.Ieee.{nan}
 use borrow.Author.Tests.{lt-ltb, le-ltb}

@@ -1,5 +1,6 @@
 -- `total` adds the weights up. Invariant: the weights left, added to the sum so far, give the total.
 -- Rests on the laws of a fold.
+use Rattle.float.specs.Ops.{_+ᶠ_}
 use borrow.Author.Needs.{needs}
 use mathlib.Core.Path.{_≡_, refl}
 use mathlib.Core.List.{foldl}
@@ -7,7 +8,6 @@ use Prim.Native.Nat.{_≤_, _-_}
 use lib.ListN.{length, drop}
 use lib.Ieee.{nan}
 use Rattle.laws.specs.Folds.{fold-step, fold-end}
-use Rattle.float.specs.Ops.{_+ᶠ_}
 use Rattle.glyphs.specs.Apportion.{total}
 use Rattle.glyphs.proofs.quotas.total.Statement.{statement}
 use Rattle.glyphs.proofs.quotas.total.Tie as tie

@@ -1,7 +1,7 @@
 -- `above` compares keys. Invariant: what is left of them compares as they do.
 -- Rests on one turn of a comparison.
 use mathlib.Core.Path.{_≡_}
-use Prim.Native.Nat.{_+_, _-_, _≤_}
+use Prim.Native.Nat.{_+_, _≤_}
 use native.Mathlib.Omega.{arith}
 use lib.ListN.{length, take, drop}
 use Rattle.job.specs.Zones.{above}

@@ -1,7 +1,7 @@
 -- `key_fault` finds what is wrong with a key.
 -- Rests on what its calls ensure, and the laws of rows.
 use mathlib.Core.Path.{_≡_}
-use Prim.Native.Nat.{_+_, _-_}
+use Prim.Native.Nat.{_+_}
 use native.Mathlib.Omega.{arith}
 use lib.ListN.{take, drop}
 use Rattle.format.specs.Rows.{faults}

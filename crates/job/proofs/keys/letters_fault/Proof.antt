@@ -1,7 +1,7 @@
 -- `letters_fault` finds the first fault among key bytes. Invariant: it is the first among those left.
 -- Rests on one turn of a run, and on a key byte without fault being there.
 use mathlib.Core.Path.{_≡_, refl, sym, _∙_}
-use Prim.Native.Nat.{_-_, _≤_}
+use Prim.Native.Nat.{_≤_}
 use native.Mathlib.Omega.{arith}
 use lib.ListN.{length}
 use Rattle.format.specs.Rows.{faults}

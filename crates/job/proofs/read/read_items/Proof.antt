@@ -1,7 +1,6 @@
 -- `read_items` reads the job.
 -- Rests on what its calls ensure.
 use mathlib.Core.Path.{_≡_, refl, sym, _∙_}
-use Prim.Native.Nat.{_-_}
 use native.Mathlib.Omega.{arith}
 use Rattle.format.specs.RowLaws.{row-fault, row-clear}
 use Rattle.format.specs.Rows.{_orElse_}

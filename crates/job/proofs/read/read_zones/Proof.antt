@@ -1,7 +1,7 @@
 -- `read_zones` reads the zones to the job's end.
 -- Rests on what `item`, `uint` and `zones` ensure, and on the flat lists being the job's.
 use mathlib.Core.Path.{_≡_, refl, sym, _∙_}
-use Prim.Native.Nat.{_+_, _-_}
+use Prim.Native.Nat.{_+_}
 use native.Mathlib.Omega.{arith}
 use lib.ListN.{length}
 use Rattle.format.specs.Rows.{faults, past}

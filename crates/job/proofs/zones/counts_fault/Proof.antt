@@ -1,6 +1,6 @@
 -- `counts_fault` finds what is wrong with the counts of a zone.
 -- Rests on what `item` and `uint` ensure, and the laws of rows.
-use Prim.Native.Nat.{_+_, _-_, _<_, _≤_}
+use Prim.Native.Nat.{_+_, _<_, _≤_}
 use native.Mathlib.Omega.{arith}
 use Rattle.format.specs.Numbers.{u16}
 use Rattle.format.specs.RowLaws.{rows}

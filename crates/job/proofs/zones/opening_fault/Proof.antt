@@ -1,7 +1,6 @@
 -- `opening_fault` finds what is wrong with the key or the counts of a zone.
 -- Rests on what its calls ensure, and the laws of rows.
 use mathlib.Core.Path.{_≡_, sym, _∙_}
-use Prim.Native.Nat.{_-_}
 use native.Mathlib.Omega.{arith}
 use Rattle.format.specs.RowLaws.{rows}
 use Rattle.job.specs.Zones.{countAt, countsFault, openingFault}

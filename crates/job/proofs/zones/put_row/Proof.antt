@@ -1,7 +1,7 @@
 -- `put_row` writes a row.
 -- Assumes nothing.
 use mathlib.Core.Path.{_≡_}
-use Prim.Native.Nat.{suc, _+_, _-_, _*_}
+use Prim.Native.Nat.{suc, _+_, _*_}
 use native.Mathlib.Omega.{arith}
 use lib.ListN.{length-set}
 use native.Mathlib.Numerals.{add-one}

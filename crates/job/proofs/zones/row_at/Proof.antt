@@ -1,6 +1,5 @@
 -- `row_at` reads the numbers of a zone.
 -- Rests on what `uint` ensures.
-use Prim.Native.Nat.{_-_}
 use native.Mathlib.Omega.{arith}
 use Rattle.job.specs.Zones.{countAt, rowAt}
 use Rattle.job.proofs.zones.row_at.Statement.{statement}

@@ -3,7 +3,7 @@
 use mathlib.Core.Path.{_≡_, refl, sym, _∙_}
 use mathlib.Core.Path.{ap}
 use Prim.Native.Nat.{ℕ}
-use Prim.Native.Nat.{_+_, _-_}
+use Prim.Native.Nat.{_+_}
 use native.Mathlib.Omega.{arith}
 use Rattle.format.specs.Rows.{faults}
 use Rattle.discs.specs.declared.rows.Row.{Row}

@@ -1,7 +1,7 @@
 -- `zones` reads zones one after the other. Invariant: what is left of them is at the place come to, and is still to be put.
 -- Rests on what `zone` ensures and one turn of a run.
 use mathlib.Core.Path.{_≡_, refl, sym, _∙_}
-use Prim.Native.Nat.{_+_, _-_, _*_, _<_, _≤_}
+use Prim.Native.Nat.{_+_, _*_, _<_, _≤_}
 use native.Mathlib.Omega.{arith}
 use mathlib.Core.List.{[]}
 use lib.ListN.{length}

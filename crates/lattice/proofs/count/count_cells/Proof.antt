@@ -1,15 +1,13 @@
 -- `count_cells` meets its contract: the numbers of the definition's cells.
 -- Rests on the law that those are what the loop over the rows counts.
-use mathlib.Core.Path.{_≡_, refl, sym, ap, _∙_}
-use mathlib.Core.Bool.{true}
+use mathlib.Core.Path.{refl, sym, ap, _∙_}
 use borrow.Author.Needs.{needs}
 use borrow.Author.Tests.{not-true, not-false}
-use Rattle.float.specs.Ops.{_≤ᶠ_, 0ᶠ}
-use Rattle.glyphs.specs.Rect.{rectangles, isFinite}
+use Rattle.glyphs.specs.Rect.{rectangles}
 use Rattle.regions.specs.Ring.{pieceOf}
 use Rattle.lattice.specs.Lattice.{hexEnumCap, at}
 use Rattle.lattice.specs.Rows.{firstRow, lastRow}
-use Rattle.lattice.specs.Tally.{none, countsOf, cells-counted, cells-none, tally-no-rows}
+use Rattle.lattice.specs.Tally.{countsOf, cells-counted, cells-none, tally-no-rows}
 use Rattle.lattice.proofs.count.count_cells.Statement.{statement}
 use Rattle.lattice.proofs.count.count_cells.Tie as tie
 

@@ -7,7 +7,6 @@ use native.Mathlib.Omega.{arith}
 use borrow.Author.Needs.{needs}
 use Rattle.glyphs.specs.Rect.{rectangles}
 use Rattle.regions.specs.Ring.{pieceOf}
-use Rattle.lattice.specs.Escape.{point}
 use Rattle.lattice.specs.Rows.{cellsFrom}
 use Rattle.lattice.specs.Tally.{tally, row-none, row-stop, row-next, row-end, counted-bound}
 use Rattle.lattice.proofs.count.count_row.Statement.{statement}

@@ -1,7 +1,7 @@
 -- `best_exit` meets its contract. The invariant: the answer is that of the obstacles which are left, from `best` on.
 -- Rests on the laws that take a list of obstacles apart.
 use Prim.Native.Nat.{_≤_, _-_, _/_}
-use mathlib.Core.Path.{_≡_, refl, sym, ap, _∙_}
+use mathlib.Core.Path.{_≡_}
 use mathlib.Core.List.{foldl}
 use native.Mathlib.Nat.{sub-zero}
 use borrow.Author.Needs.{needs}

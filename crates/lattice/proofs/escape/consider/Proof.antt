@@ -1,6 +1,5 @@
 -- `consider` meets its contract: the source's tests.
 -- Rests on the contracts of its calls.
-use mathlib.Core.Path.{_≡_, sym, _∙_}
 use borrow.Author.Needs.{needs}
 use borrow.Author.Tests.{not-true, not-false}
 use Rattle.lattice.specs.Escape.{consider}

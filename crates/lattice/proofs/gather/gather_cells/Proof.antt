@@ -1,6 +1,6 @@
 -- `gather_cells` meets its contract: the nearest of the definition's cells.
 -- Rests on the law that those are what the loop over the rows gathers.
-use mathlib.Core.Path.{_≡_, refl, sym, ap, _∙_}
+use mathlib.Core.Path.{refl, sym, ap, _∙_}
 use borrow.Author.Needs.{needs}
 use borrow.Author.Tests.{not-true, not-false}
 use Rattle.glyphs.specs.Rect.{rectangles}

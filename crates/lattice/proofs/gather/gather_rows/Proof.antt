@@ -1,6 +1,6 @@
 -- `gather_rows` meets its contract. The invariant: the cells are those gathered from what the slices hold and the rows which are left, where `left` more cells may be visited.
 -- Rests on the laws of what two slices hold and of a turn over the rows.
-use Prim.Native.Nat.{_≤_, _<_, _-_, _+_}
+use Prim.Native.Nat.{_≤_, _-_, _+_}
 use mathlib.Core.Path.{_≡_, refl, sym, ap, _∙_}
 use native.Mathlib.Omega.{arith}
 use borrow.Author.Needs.{needs}

@@ -1,7 +1,6 @@
 -- `keep` meets its contract: a place is looked for, room made and the cell put there.
 -- Rests on the laws of what that writes.
 use Prim.Native.Nat.{_≤_}
-use mathlib.Core.Path.{_≡_, sym, _∙_}
 use native.Mathlib.Omega.{arith}
 use borrow.Author.Needs.{needs}
 use Rattle.laws.specs.Bounded.{lead-le}

@@ -1,7 +1,7 @@
 -- `make_room` meets its contract. The invariant: the floats from `i` on are moved.
 -- Rests on the law of one more float moved.
-use Prim.Native.Nat.{_≤_, _<_, _-_, _+_, _*_}
-use mathlib.Core.Path.{_≡_, refl, sym, ap, _∙_}
+use Prim.Native.Nat.{_≤_, _-_, _*_}
+use mathlib.Core.Path.{_≡_, refl, sym}
 use native.Mathlib.Omega.{arith}
 use borrow.Author.Needs.{needs}
 use lib.ListN.{length, length-set}

@@ -1,7 +1,7 @@
 -- `place` meets its contract. The invariant: what is looked for lies from `low` through `high`.
 -- Rests on the laws of where an element goes in a list that is in order.
 use Prim.Native.Nat.{_≤_, _<_, _-_, _+_, _/_}
-use mathlib.Core.Path.{_≡_, sym, _∙_}
+use mathlib.Core.Path.{_≡_}
 use mathlib.Core.Bool.{true, false}
 use native.Mathlib.Omega.{arith}
 use borrow.Author.Needs.{needs}

@@ -1,7 +1,5 @@
 -- `row_offset` meets its contract: the source's choice, by the parity of the rank.
 -- Rests on the law that a number and its rank are odd together.
-use mathlib.Core.Path.{_≡_, _∙_}
-use borrow.Author.Needs.{needs}
 use borrow.Author.Tests.{eq-eqb, ne-eqb}
 use Rattle.lattice.specs.Lattice.{rowOffset, isShifted}
 use Rattle.lattice.specs.Span.{parity}

@@ -1,6 +1,6 @@
 -- `pack_field` meets its contract: the definition's three cases.
 -- Rests on the laws of its choices.
-use mathlib.Core.Path.{_≡_, sym, ap, _∙_}
+use mathlib.Core.Path.{sym, ap, _∙_}
 use mathlib.Core.List.{List}
 use borrow.Author.Needs.{needs}
 use borrow.Author.Tests.{not-true, not-false}
@@ -13,7 +13,7 @@ use Rattle.glyphs.specs.Rect.{rectangles}
 use Rattle.regions.specs.Ring.{pieceOf}
 use Rattle.lattice.specs.Around.{pack-strict, pack-short, pack-wide}
 use Rattle.glyphs.specs.Spots.{flat}
-use Rattle.lattice.specs.Spread.{withSpacing, fieldTake, fieldPack}
+use Rattle.lattice.specs.Spread.{withSpacing, fieldTake}
 use Rattle.lattice.specs.declared.rows.Field.{Field}
 use Rattle.lattice.proofs.spread.pack_field.Statement.{statement}
 use Rattle.lattice.proofs.spread.pack_field.Tie as tie

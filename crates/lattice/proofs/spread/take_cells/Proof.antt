@@ -2,7 +2,6 @@
 -- Rests on the laws of what is taken and how it is written.
 use Prim.Native.Nat.{_≤_, _*_}
 use mathlib.Core.Path.{_≡_, sym, ap, _∙_}
-use mathlib.Core.Bool.{cond}
 use mathlib.Core.List.{List}
 use native.Mathlib.Omega.{arith}
 use borrow.Author.Needs.{needs}

@@ -1,6 +1,5 @@
 -- `widen` meets its contract. The invariant: the answer is that of the turns which are left.
 -- Rests on the laws of a turn.
-use Prim.Native.Nat.{_<_, _≤_}
 use mathlib.Core.Path.{_≡_, refl, sym, _∙_}
 use borrow.Author.Needs.{needs}
 use Rattle.glyphs.specs.Rect.{rectangles}

@@ -1,6 +1,6 @@
 -- `pack_uniform_piece` meets its contract: no spots without bounds, else those of the lattice about the deepest point.
 -- Rests on the laws of the packer by its parts.
-use mathlib.Core.Path.{_≡_, refl, sym, ap, _∙_}
+use mathlib.Core.Path.{_≡_, sym, ap, _∙_}
 use mathlib.Core.List.{List}
 use borrow.Author.Needs.{needs}
 use lib.Ieee.{Float}

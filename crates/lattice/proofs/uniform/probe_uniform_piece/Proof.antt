@@ -1,6 +1,6 @@
 -- `probe_uniform_piece` meets its contract: the number of spots of a trial is that of the free cells, up to n.
 -- Rests on the law that a trial only counts.
-use mathlib.Core.Path.{_≡_, refl, sym, ap, _∙_}
+use mathlib.Core.Path.{_≡_, sym, ap, _∙_}
 use Prim.Native.Nat.{min}
 use borrow.Author.Needs.{needs}
 use lib.Ieee.{Float}

@@ -5,7 +5,7 @@ use Prim.Native.Nat.{_≤_, _-_}
 use lib.ListN.{length, drop}
 use lib.Ieee.{Float, nan}
 use borrow.Author.Needs.{needs}
-use Rattle.laws.specs.Any.{any, any-step, any-end}
+use Rattle.laws.specs.Any.{any-step, any-end}
 use Rattle.float.specs.Ops.{_<ᶠ_, 0ᶠ}
 use Rattle.marks.specs.Leaves.{anyBelow}
 use Rattle.marks.proofs.leaves.any_below.Statement.{statement}

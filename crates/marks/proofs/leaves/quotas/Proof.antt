@@ -1,6 +1,6 @@
 -- `quotas` refuses what cannot be shared out and too few places, and else writes the quotas.
 -- Rests on what `any_below` and the layer's `apportion` ensure.
-use mathlib.Core.Path.{_≡_, refl, sym, _∙_}
+use mathlib.Core.Path.{_≡_, sym, _∙_}
 use mathlib.Core.List.{List}
 use Prim.Native.Nat.{ℕ}
 use lib.ListN.{length}

@@ -1,6 +1,5 @@
 -- `ceiling_of` meets its contract, case by case.
 -- Rests on what `analytic_r_hi` ensures.
-use mathlib.Core.Path.{_∙_}
 use borrow.Author.Needs.{needs}
 use Rattle.plan.specs.Sized.{ceilingFor}
 use Rattle.plan.proofs.floor.ceiling_of.Statement.{statement}

@@ -1,10 +1,7 @@
 -- `put_sheet` writes the sheet.
 -- Rests on what its calls ensure, and on the bytes of a sheet.
-use mathlib.Core.Path.{_≡_, refl}
-use Prim.Native.Nat.{_+_, _≤_}
 use native.Mathlib.Omega.{arith}
 use borrow.Author.Needs.{needs}
-use lib.ListN.{length}
 use lib.Seq.{length-sets}
 use Rattle.glyphs.specs.Rect.{rectangles}
 use Rattle.discs.specs.Floor.{start}

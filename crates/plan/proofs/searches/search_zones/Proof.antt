@@ -1,6 +1,6 @@
 -- `search_zones` finds the deepest points of all pieces. Invariant: those of the zones left are still to be found and put.
 -- Rests on what its calls ensure and one turn of a walk over rows.
-use mathlib.Core.Path.{_≡_, refl, sym, ap, _∙_}
+use mathlib.Core.Path.{_≡_, refl, sym, _∙_}
 use Prim.Native.Nat.{_-_, _*_, _≤_, _+_}
 use native.Mathlib.Omega.{arith}
 use borrow.Author.Needs.{needs}

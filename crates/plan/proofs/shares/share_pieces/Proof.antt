@@ -1,6 +1,6 @@
 -- `share_pieces` writes the quotas of a zone's pieces.
 -- Rests on what its calls ensure and on what lies at the front of its two arrays.
-use mathlib.Core.Path.{_≡_, sym, ap, _∙_}
+use mathlib.Core.Path.{sym, ap, _∙_}
 use native.Mathlib.Omega.{arith}
 use borrow.Author.Needs.{needs}
 use lib.ListN.{length}

@@ -1,6 +1,6 @@
 -- `place_zone` packs a zone, or nothing without a size.
 -- Rests on what its calls ensure, and on the parts of slices that are lent.
-use mathlib.Core.Path.{_≡_, refl, _∙_}
+use mathlib.Core.Path.{refl}
 use mathlib.Core.List.{flatten}
 use Prim.Native.Nat.{_*_}
 use native.Mathlib.Omega.{arith}

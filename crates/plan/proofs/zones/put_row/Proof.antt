@@ -1,8 +1,7 @@
 -- `put_row` packs and writes a zone where it is left in.
 -- Rests on what its calls ensure, and on the bytes of a zone.
-use mathlib.Core.Path.{_≡_, sym, ap, _∙_}
+use mathlib.Core.Path.{sym, ap, _∙_}
 use mathlib.Core.List.{flatten}
-use Prim.Native.Nat.{_+_, _*_, _≤_}
 use native.Mathlib.Omega.{arith}
 use borrow.Author.Needs.{needs}
 use borrow.Author.Tests.{not-true, not-false}

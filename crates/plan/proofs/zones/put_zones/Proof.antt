@@ -1,15 +1,15 @@
 -- `put_zones` packs and writes the zones left in. Invariant: those left are still to be put, and there is room for them.
 -- Rests on what its calls ensure and one turn of a walk over rows.
-use mathlib.Core.Path.{_≡_, refl, sym, ap, _∙_}
-use Prim.Native.Nat.{ℕ, _+_, _-_, _*_, _≤_}
+use mathlib.Core.Path.{_≡_, refl, sym, _∙_}
+use Prim.Native.Nat.{_+_, _-_, _*_, _≤_}
 use native.Mathlib.Omega.{arith}
 use borrow.Author.Needs.{needs}
 use lib.ListN.{length, drop}
 use lib.Seq.{sets, length-sets}
 use Rattle.glyphs.specs.Rect.{rectangles}
-use Rattle.discs.specs.Floor.{EachRow, start, pastRow, Packable, Lends}
+use Rattle.discs.specs.Floor.{EachRow, start, Packable, Lends}
 use Rattle.job.specs.Job.{rowRoom, rowsRoom}
-use Rattle.job.specs.Rows.{rows-turn, rows-end}
+use Rattle.job.specs.Rows.{rows-turn}
 use Rattle.plan.specs.Rows.{flatRows, each-turn, flat-turn, flat-end, length-turn, length-end}
 use Rattle.plan.specs.Placing.{placedAt, bytesAt, Fair}
 use Rattle.plan.proofs.zones.put_zones.Statement.{statement}

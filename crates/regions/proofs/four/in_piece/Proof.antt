@@ -1,11 +1,12 @@
 -- `in_piece` meets its contract. The invariant: a flag is the answer, unless a hole that is left has the place.
 -- Rests on the laws that take a piece apart ring by ring.
 use Prim.Native.Nat.{_≤_, _-_, _+_}
-use mathlib.Core.Path.{_≡_, refl}
+use mathlib.Core.Path.{_≡_, refl, sym}
 use mathlib.Core.Bool.{Bool, true, false, not, cond, _&&_}
 use native.Mathlib.Omega.{arith}
 use borrow.Author.Needs.{needs}
 use lib.ListN.{length, drop}
+use Rattle.laws.specs.Truth.{and-true}
 use Rattle.regions.specs.Ring.{sum, outer, holes, ringsFrom, pieceOf, rings-step, rings-end, sum-step, first-ring, first-sum}
 use Rattle.regions.specs.Clearance.{inAny, within}
 use Rattle.regions.specs.Four.{Which, at, told}
@@ -65,13 +66,9 @@ loop-again c =
       ),
     )
 
-last : (b : Bool) → b ≡ b && true
-last true = refl
-last false = refl
-
 returns : tie.Need-returns Inv-loop μ-loop
 unfolding inAny
-returns c k = rw (c .before .loop .inv .2 k, rings-end _ _ _ _ (c .loop-test .left)) (last _)
+returns c k = rw (c .before .loop .inv .2 k, rings-end _ _ _ _ (c .loop-test .left)) (sym (and-true _))
 
 pub in-piece-spec : {M : Type 1} → statement M
 in-piece-spec =

@@ -6,7 +6,8 @@ use native.Mathlib.Omega.{arith}
 use native.Mathlib.Numerals.{add-one}
 use borrow.Author.Needs.{needs}
 use Rattle.float.specs.Ops.{_>ᶠ_}
-use Rattle.regions.specs.Sides.{aboveCount, flag-le, at-most}
+use Rattle.laws.specs.Truth.{flag-le}
+use Rattle.regions.specs.Sides.{aboveCount, at-most}
 use Rattle.regions.proofs.inside.on_one_side.Statement.{statement}
 use Rattle.regions.proofs.inside.on_one_side.Tie as tie
 

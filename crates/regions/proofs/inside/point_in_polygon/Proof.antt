@@ -1,8 +1,7 @@
 -- `point_in_polygon` meets its contract. The invariant: the flag is that of the definition after `i` turns.
 -- Rests on the law of the first turn and the contracts of what it calls.
-use mathlib.Core.Path.{_≡_, refl}
+use mathlib.Core.Path.{_≡_}
 use Prim.Native.Nat.{_≤_, _<_, _-_, _/_}
-use native.Mathlib.Omega.{arith}
 use lib.ListN.{length}
 use borrow.Author.Needs.{needs}
 use borrow.Author.Tests.{lt-ltb, le-ltb}

@@ -1,6 +1,6 @@
 -- `turned_by_sixteen` meets its contract: sixteen edges are turned by, or passed over.
 -- Rests on the law of edges on one side.
-use mathlib.Core.Path.{_≡_, refl}
+use mathlib.Core.Path.{_≡_}
 use Prim.Native.Nat.{_+_, _-_, _/_}
 use native.Mathlib.Omega.{arith}
 use lib.ListN.{length}

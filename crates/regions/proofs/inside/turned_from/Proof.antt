@@ -1,6 +1,6 @@
 -- `turned_from` meets its contract. The invariant: the flag is that of the definition after k turns.
 -- Rests on the law of a turn.
-use mathlib.Core.Path.{_≡_, refl}
+use mathlib.Core.Path.{_≡_}
 use Prim.Native.Nat.{_≤_, _<_, _-_, _/_}
 use native.Mathlib.Nat.{le-antisymm}
 use lib.ListN.{length}

@@ -2,7 +2,6 @@
 -- Rests on the contract of `clears_obstacles`, and on the margin's being that of the inset.
 use mathlib.Core.Path.{_≡_, ap, _∙_}
 use mathlib.Core.Bool.{Bool, true, false, not}
-use borrow.Author.Needs.{needs}
 use Rattle.glyphs.specs.Rect.{rectangles, clearOfObstacles}
 use Rattle.regions.specs.Margin.{least-of-margin, margin-own}
 use Rattle.relax.proofs.field.Field.clear_if.Statement.{statement}
