@@ -27,7 +27,7 @@ use Rattle.regions.specs.Least.{Good, after-good, ring-good, rings-good,
 use Rattle.regions.specs.Margin.{lowSquare, highSquare, untilFrom, untilOfRing, untilOfRings, until-stop}
 
 -- not true, so false
-refuted : (b : Bool) → (T b → ⊥) → b ≡ false
+pub refuted : (b : Bool) → (T b → ⊥) → b ≡ false
 refuted true h = absurd (h tt)
 refuted false h = refl
 
@@ -136,7 +136,7 @@ rings-stopped px py low a b (ring ∷ rings) g s =
 -- ---- the bounds of a margin
 
 -- a root that is a number is one of a value that is not below 0
-root-number : (x : Float) → Number (sqrt x) → T (le origin x)
+pub root-number : (x : Float) → Number (sqrt x) → T (le origin x)
 unfolding rootOf isNan
 root-number nan h = absurd h
 root-number (inf true) h = absurd h
@@ -150,7 +150,7 @@ low-of true s x c e p h = yes e
 low-of false s x c e p h = absurd (lt-not-le x 0ᶠ h (rw origin-is p))
 
 -- a square below `low` has a root below c
-low-square : (c x : Float) → T (le origin x) → T (lt x (lowSquare c)) → T (lt (sqrt (lowSquare c)) c)
+pub low-square : (c x : Float) → T (le origin x) → T (lt x (lowSquare c)) → T (lt (sqrt (lowSquare c)) c)
 unfolding lowSquare
 low-square c x p h =
     let s = c *ᶠ c *ᶠ literal 0x3fef_ff2e_48e8_a71e in

@@ -6,6 +6,7 @@ pub mod Squares
 pub mod Least
 pub mod Margin
 pub mod Early
+pub mod Unrooted
 pub mod Pillars
 pub mod Facts
 pub mod Sizes

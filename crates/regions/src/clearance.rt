@@ -76,7 +76,7 @@ fn ring_square(px: f64, py: f64, start: f64, ring: &[f64]) -> f64
 }
 
 // The least square of all rings.
-fn rings_square(px: f64, py: f64, sizes: &[usize], coords: &[f64]) -> f64
+pub fn rings_square(px: f64, py: f64, sizes: &[usize], coords: &[f64]) -> f64
     requires { ⌜ sum (now sizes) * 2 ≤ length (now coords) ⌝ }
     ensures { λ r. ⌜ r ≡ leastOfRings px py (pieceOf (now (sizes .entry)) (now (coords .entry))) ⌝ }
 {

@@ -7,3 +7,4 @@ pub mod inside;
 pub mod margin;
 pub mod pillars;
 pub mod ring;
+pub mod unrooted;

@@ -2,7 +2,7 @@
 -- Rests on the kept clearances, and on marks and their coordinates being the same.
 use mathlib.Core.Path.{_≡_, refl, sym, ap, _∙_}
 use mathlib.Core.Bool.{true, false}
-use mathlib.Core.List.{List}
+use mathlib.Core.List.{List, map}
 use Prim.Native.Nat.{ℕ, _*_}
 use lib.ListN.{length}
 use lib.Ieee.{Float}
@@ -10,6 +10,7 @@ use Rattle.glyphs.specs.declared.rect.Point.{Point}
 use Rattle.glyphs.specs.declared.rect.Rectangle.{Rectangle}
 use Rattle.glyphs.specs.Spots.{spotsOf, flat, flat-spots}
 use Rattle.regions.specs.Ring.{Piece}
+use Rattle.regions.specs.Unrooted.{rooted}
 use Rattle.relax.specs.declared.Spreading.{Spreading}
 use Rattle.relax.specs.Scatter.{Scatter, idle, around, relaxSweeps, relaxScatter, clearancesOf}
 use Rattle.relax.specs.Moves.{scatterOf}
@@ -34,15 +35,15 @@ module _ (numbers : Spreading) (points : List Point) (piece : Piece) (obstacles 
   idle-end spots n e k h = (rw (when-idle h, e, flat-spots spots n k), rw (when-idle h))
 
   pub busy-end :
-      (spots clearances : List Float) (n : ℕ) → length spots ≡ n * 2 → idle (length points) spacing ≡ false
-      → scatterOf spots clearances
+      (spots unrooted : List Float) (n : ℕ) → length spots ≡ n * 2 → idle (length points) spacing ≡ false
+      → scatterOf spots unrooted
       ≡ relaxSweeps numbers (around numbers points piece obstacles spacing inset) (record { points = points; clearance = clearancesOf piece points })
       → (spots ≡ flat (relaxScatter numbers points piece obstacles spacing inset))
-      × (clearances ≡ clearancesOf piece (relaxScatter numbers points piece obstacles spacing inset))
+      × (map rooted unrooted ≡ clearancesOf piece (relaxScatter numbers points piece obstacles spacing inset))
   unfolding swept
-  busy-end spots clearances n k h e =
+  busy-end spots unrooted n k h e =
       let p : spotsOf spots ≡ swept .points = ap (λ (s : Scatter). s .points) e in
-      let c : clearances ≡ swept .clearance = ap (λ (s : Scatter). s .clearance) e in (
+      let c : map rooted unrooted ≡ swept .clearance = ap (λ (s : Scatter). s .clearance) e in (
         sym (flat-spots spots n k) ∙ ap flat p ∙ rw (when-busy h),
         c
             ∙ kept-clearances numbers (around numbers points piece obstacles spacing inset) (record { points = points; clearance = clearancesOf piece points }) refl

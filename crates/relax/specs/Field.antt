@@ -1,5 +1,5 @@
 -- relax.rs, `Field`: the push on a mark, the clearance's gradient, and whether a mark may move to a place.
--- `Field` is the source's without the piece and the obstacles, which stand beside it, and with the margin of the inset.
+-- `Field` is the source's without the piece and the obstacles, which stand beside it, and with the margins of the inset and of the reach.
 use mathlib.Core.Path.{_≡_}
 use mathlib.Core.Bool.{Bool, true, not, cond, _&&_, _||_}
 use mathlib.Core.List.{List, [], _∷_}
@@ -16,6 +16,7 @@ use Rattle.glyphs.specs.Spots.{apart}
 use Rattle.regions.specs.Ring.{Piece}
 use Rattle.regions.specs.Clearance.{signedClearance}
 use Rattle.regions.specs.Margin.{marginOf}
+use Rattle.regions.specs.Unrooted.{rooted}
 use Rattle.relax.specs.declared.Spreading.{Spreading}
 use Rattle.relax.specs.declared.push.Force.{Force}
 use Rattle.relax.specs.declared.field.Field.{Field}
@@ -40,17 +41,18 @@ fieldOf numbers spacing inset =
       margin = marginOf inset;
       influence = numbers .influence *ᶠ spacing;
       «boundary_reach» = numbers .«boundary_influence» *ᶠ inset;
+      reach = marginOf (numbers .«boundary_influence» *ᶠ inset);
       «boundary_weight» = numbers .«boundary_weight»;
       probe = probeFactor *ᶠ inset;
     }
 
--- the margin is that of the inset
+-- the margins are those of the inset and of the reach
 abbrev pub Sound : Field → Type 0
-Sound field = field .margin ≡ marginOf (field .inset)
+Sound field = (field .margin ≡ marginOf (field .inset)) × (field .reach ≡ marginOf (field .«boundary_reach»))
 
 pub field-sound : (numbers : Spreading) (spacing inset : Float) (field : Field) → field ≡ fieldOf numbers spacing inset → Sound field
 unfolding fieldOf
-field-sound numbers spacing inset field e = rw e
+field-sound numbers spacing inset field e = (rw e, rw e)
 
 -- points[i]
 abbrev pub at : List Point → ℕ → Point
@@ -108,3 +110,8 @@ accepts field piece obstacles candidate i points honoring =
     cond (clearance <ᶠ field .inset) Refused
     (cond (honoring && not (clearOfObstacles x y obstacles (field .inset))) Refused
     (cond (clearOfOthers x y (field .spacing *ᶠ field .spacing) i 0 points) (Clear clearance) Refused))
+
+-- the code's answer has a clearance whose root is not taken
+unfoldable pub told : Acceptance → Acceptance
+told (Clear unrooted) = Clear (rooted unrooted)
+told Refused = Refused

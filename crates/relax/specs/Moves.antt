@@ -14,6 +14,7 @@ use Rattle.glyphs.specs.declared.rect.Rectangle.{Rectangle}
 use Rattle.glyphs.specs.Rect.{rectangles, isFinite}
 use Rattle.glyphs.specs.Spots.{spotAt, spotsOf, spots-at}
 use Rattle.regions.specs.Ring.{Piece, pieceOf}
+use Rattle.regions.specs.Unrooted.{rooted}
 use Rattle.relax.specs.Field.{at, forceOn, accepts}
 use Rattle.relax.specs.Scatter.{Scatter, Surroundings, moved, settle, stepped, tryStep, relaxPoint}
 use Rattle.relax.specs.declared.Spreading.{Spreading}
@@ -24,9 +25,14 @@ use Rattle.relax.specs.declared.field.Acceptance.the-variants.{Clear, Re
 use Rattle.relax.specs.declared.moves.Move.{Move}
 use Rattle.relax.specs.declared.moves.Move.the-variants.{To, Stay}
 
--- the scatter whose marks and clearances two lists hold
+-- the scatter whose marks and clearances two lists hold, the clearances with their roots not taken
 abbrev pub scatterOf : List Float → List Float → Scatter
-scatterOf spots clearances = record { points = spotsOf spots; clearance = clearances }
+scatterOf spots unrooted = record { points = spotsOf spots; clearance = map rooted unrooted }
+
+-- the code's move has a clearance whose root is not taken
+unfoldable pub toldOf : Move → Move
+toldOf (To x y unrooted) = To x y (rooted unrooted)
+toldOf Stay = Stay
 
 -- a flag as a float, and the flags that a list of floats holds
 unfoldable pub flagOf : Bool → Float

@@ -1,4 +1,4 @@
--- What is noted of each mark before the sweeps: its clearance, and as a float whether it is clear of the obstacles.
+-- What is noted of each mark before the sweeps: its clearance, the root not taken, and as a float whether it is clear of the obstacles.
 -- Rests on the laws of a rule's values written in order.
 use mathlib.Core.Path.{_≡_, refl, sym, ap, _∙_}
 use mathlib.Core.Bool.{Bool, true, false}
@@ -16,12 +16,15 @@ use Rattle.glyphs.specs.declared.rect.Rectangle.{Rectangle}
 use Rattle.glyphs.specs.Rect.{clearOfObstacles}
 use Rattle.glyphs.specs.Spots.{spotAt, spotsOf, spots-at, length-spots}
 use Rattle.regions.specs.Ring.{Piece}
-use Rattle.regions.specs.Clearance.{signedClearance}
+use Rattle.regions.specs.Unrooted.{unrooted, rooted, rooted-clearance}
 use Rattle.relax.specs.Scatter.{clearancesOf, honoringOf}
 use Rattle.relax.specs.Moves.{flagOf, flagsOf}
 
-abbrev pub clearanceAt : Piece → List Float → ℕ → Float
-clearanceAt piece spots i = signedClearance (spotAt spots i .x) (spotAt spots i .y) piece
+unfoldable pub unrootedOf : Piece → List Point → List Float
+unrootedOf piece points = map (λ (p : Point). unrooted (p .x) (p .y) piece) points
+
+abbrev pub unrootedAt : Piece → List Float → ℕ → Float
+unrootedAt piece spots i = unrooted (spotAt spots i .x) (spotAt spots i .y) piece
 
 abbrev pub flagAt : List Rectangle → Float → List Float → ℕ → Float
 flagAt obstacles inset spots i = flagOf (clearOfObstacles (spotAt spots i .x) (spotAt spots i .y) obstacles inset)
@@ -60,11 +63,17 @@ unfolding flagOf Ieee.ofBits Ieee.ofFields Ieee.odd Ieee.lt
 flag-back true = refl
 flag-back false = refl
 
-pub clearances-noted :
+pub unrooted-noted :
     (piece : Piece) (spots l : List Float) → length spots ≡ length l * 2
-    → written (tabulate (clearanceAt piece spots) (length l)) l ≡ clearancesOf piece (spotsOf spots)
-unfolding clearancesOf
-clearances-noted piece spots l e = noted-marks (λ (p : Point). signedClearance (p .x) (p .y) piece) spots l e
+    → written (tabulate (unrootedAt piece spots) (length l)) l ≡ unrootedOf piece (spotsOf spots)
+unfolding unrootedOf
+unrooted-noted piece spots l e = noted-marks (λ (p : Point). unrooted (p .x) (p .y) piece) spots l e
+
+-- their roots are the clearances
+pub noted-roots : (piece : Piece) (points : List Point) → map rooted (unrootedOf piece points) ≡ clearancesOf piece points
+unfolding unrootedOf clearancesOf
+noted-roots piece [] = refl
+noted-roots piece (p ∷ points) = rw (rooted-clearance (p .x) (p .y) piece, noted-roots piece points)
 
 pub flags-noted :
     (obstacles : List Rectangle) (inset : Float) (spots l : List Float) → length spots ≡ length l * 2

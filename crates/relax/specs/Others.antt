@@ -18,6 +18,9 @@ use Rattle.glyphs.specs.Rect.{clearOfObstacles}
 use Rattle.glyphs.specs.Spots.{apart}
 use Rattle.regions.specs.Ring.{Piece}
 use Rattle.regions.specs.Clearance.{signedClearance}
+use Rattle.regions.specs.Margin.{marginOf, least-of-margin}
+use Rattle.regions.specs.Unrooted.{rooted}
+use Rattle.regions.specs.declared.margin.Margin.{Margin}
 use Rattle.relax.specs.declared.push.Force.{Force}
 use Rattle.relax.specs.declared.field.Field.{Field}
 use Rattle.relax.specs.declared.field.Acceptance.the-variants.{Clear, Refused}
@@ -121,3 +124,7 @@ accepts-reordered field piece obstacles candidate i points honoring =
     (clearOfOthers (candidate .x) (candidate .y) (field .spacing *ᶠ field .spacing) i 0 points)
     (Clear (signedClearance (candidate .x) (candidate .y) piece))
     Refused
+
+-- ---- a clearance whose root is not taken, compared with a margin's
+pub below-margin : (m : Margin) (c u : Float) → m ≡ marginOf c → rooted u <ᶠ m .least ≡ rooted u <ᶠ c
+below-margin m c u e = rw (least-of-margin m c e)

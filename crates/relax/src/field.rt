@@ -7,7 +7,8 @@ ghost use Rattle.float.specs.Ops.{_*ᶠ_};
 ghost use Rattle.glyphs.specs.Rect.{rectangles, clearOfObstacles};
 ghost use Rattle.glyphs.specs.Spots.{spotsOf};
 ghost use Rattle.regions.specs.Ring.{sum, pieceOf};
-ghost use Rattle.relax.specs.Field.{fieldOf, Sound, clearanceGradient, pushInward, forceOn, clearOfOthers, accepts};
+ghost use Rattle.regions.specs.Unrooted.{rooted};
+ghost use Rattle.relax.specs.Field.{fieldOf, Sound, clearanceGradient, pushInward, forceOn, clearOfOthers, accepts, told};
 use crate::Spreading;
 use crate::push::Force;
 use crate::push::push_others;
@@ -16,13 +17,15 @@ use glyphs::spots::apart_from_all;
 use glyphs::spots::spot;
 use glyphs::spots::spots_after;
 use glyphs::spots::spots_before;
-use regions::clearance::signed_clearance;
 use regions::four::Four;
 use regions::four::four_clearances;
 use regions::margin::Margin;
 use regions::pillars::clears_obstacles;
+use regions::unrooted::rooted;
+use regions::unrooted::rooted_below;
+use regions::unrooted::unrooted_clearance;
 
-// The distances that marks keep, and the margin and the reaches made of them. The piece and its obstacles are
+// The distances that marks keep, and the margins and the reaches made of them. The piece and its obstacles are
 // handed beside it.
 pub struct Field {
     pub spacing: f64,
@@ -30,6 +33,7 @@ pub struct Field {
     pub margin: Margin,
     pub influence: f64,
     pub boundary_reach: f64,
+    pub reach: Margin,
     pub boundary_weight: f64,
     pub probe: f64,
 }
@@ -40,7 +44,7 @@ pub enum Gradient {
     Flat,
 }
 
-// The clearance of a place that a mark may move to, or that it may not.
+// The clearance of a place that a mark may move to, its root not taken, or that it may not.
 pub enum Acceptance {
     Clear(f64),
     Refused,
@@ -51,12 +55,15 @@ impl Field {
         ensures { λ r. ⌜ r ≡ fieldOf numbers spacing inset ⌝ }
     {
         let margin = Margin::of(inset);
+        let boundary_reach = numbers.boundary_influence * inset;
+        let reach = Margin::of(boundary_reach);
         Field {
             spacing,
             inset,
             margin,
             influence: numbers.influence * spacing,
-            boundary_reach: numbers.boundary_influence * inset,
+            boundary_reach,
+            reach,
             boundary_weight: numbers.boundary_weight,
             probe: 0.25 * inset,
         }
@@ -107,17 +114,17 @@ impl Field {
         self,
         i: usize,
         spots: &[f64],
-        clearance: f64,
+        unrooted: f64,
         sizes: &[usize],
         coords: &[f64],
     ) -> Force
-        requires { ⌜ (i < length (now spots) / 2) × (0 < length (now sizes)) × (sum (now sizes) * 2 ≤ length (now coords)) ⌝ }
-        ensures { λ r. ⌜ r ≡ forceOn self (pieceOf (now (sizes .entry)) (now (coords .entry))) i (spotsOf (now (spots .entry))) clearance ⌝ }
+        requires { ⌜ (i < length (now spots) / 2) × (0 < length (now sizes)) × (sum (now sizes) * 2 ≤ length (now coords)) × Sound self ⌝ }
+        ensures { λ r. ⌜ r ≡ forceOn self (pieceOf (now (sizes .entry)) (now (coords .entry))) i (spotsOf (now (spots .entry))) (rooted unrooted) ⌝ }
     {
         let f = push_others(self.influence, i, spots);
-        if (clearance < self.boundary_reach) & (self.boundary_reach > 0.0) {
+        if rooted_below(unrooted, self.reach) & (self.boundary_reach > 0.0) {
             let gradient = self.clearance_gradient(spot(spots, i), sizes, coords);
-            return self.push_inward(clearance, gradient, f);
+            return self.push_inward(rooted(unrooted), gradient, f);
         }
         f
     }
@@ -156,7 +163,7 @@ impl Field {
         coords: &[f64],
     ) -> Acceptance
         requires { ⌜ (i < length (now spots) / 2) × (0 < length (now sizes)) × (sum (now sizes) * 2 ≤ length (now coords)) × Sound self ⌝ }
-        ensures { λ r. ⌜ r ≡ accepts self (pieceOf (now (sizes .entry)) (now (coords .entry))) (rectangles (now (obstacles .entry))) candidate i (spotsOf (now (spots .entry))) honoring ⌝ }
+        ensures { λ r. ⌜ told r ≡ accepts self (pieceOf (now (sizes .entry)) (now (coords .entry))) (rectangles (now (obstacles .entry))) candidate i (spotsOf (now (spots .entry))) honoring ⌝ }
     {
         if !self.clear_of_others(candidate, i, spots) {
             return Acceptance::Refused;
@@ -164,10 +171,10 @@ impl Field {
         if !self.clear_if(honoring, candidate, obstacles) {
             return Acceptance::Refused;
         }
-        let clearance = signed_clearance(candidate.x, candidate.y, sizes, coords);
-        if clearance < self.inset {
+        let unrooted = unrooted_clearance(candidate.x, candidate.y, sizes, coords);
+        if rooted_below(unrooted, self.margin) {
             return Acceptance::Refused;
         }
-        Acceptance::Clear(clearance)
+        Acceptance::Clear(unrooted)
     }
 }

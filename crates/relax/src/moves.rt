@@ -7,7 +7,7 @@ ghost use Rattle.glyphs.specs.Spots.{spotsOf};
 ghost use Rattle.regions.specs.Ring.{sum, pieceOf};
 ghost use Rattle.relax.specs.Field.{Sound};
 ghost use Rattle.relax.specs.Scatter.{relaxPoint};
-ghost use Rattle.relax.specs.Moves.{scatterOf, surroundings, firstAccepted, pushedTo, settled};
+ghost use Rattle.relax.specs.Moves.{scatterOf, surroundings, firstAccepted, pushedTo, settled, toldOf};
 use crate::Spreading;
 use crate::field::Acceptance;
 use crate::field::Field;
@@ -17,7 +17,7 @@ use glyphs::rect::is_finite;
 use glyphs::spots::put_spot;
 use glyphs::spots::spot;
 
-// What becomes of a mark: a new place and its clearance, or nothing.
+// What becomes of a mark: a new place and its clearance, the root not taken, or nothing.
 pub enum Move {
     To(f64, f64, f64),
     Stay,
@@ -37,7 +37,7 @@ fn first_accepted(
     first: f64,
 ) -> Move
     requires { ⌜ (i < length (now spots) / 2) × (0 < length (now sizes)) × (sum (now sizes) * 2 ≤ length (now coords)) × Sound field ⌝ }
-    ensures { λ r. ⌜ r ≡ firstAccepted field (pieceOf (now (sizes .entry)) (now (coords .entry))) (rectangles (now (obstacles .entry))) i (spotsOf (now (spots .entry))) honoring towards (suc backtracks) first ⌝ }
+    ensures { λ r. ⌜ toldOf r ≡ firstAccepted field (pieceOf (now (sizes .entry)) (now (coords .entry))) (rectangles (now (obstacles .entry))) i (spotsOf (now (spots .entry))) honoring towards (suc backtracks) first ⌝ }
 {
     let p = spot(spots, i);
     let mut step = first;
@@ -73,7 +73,7 @@ fn pushed_to(
     max_step: f64,
 ) -> Move
     requires { ⌜ (i < length (now spots) / 2) × (0 < length (now sizes)) × (sum (now sizes) * 2 ≤ length (now coords)) × Sound field ⌝ }
-    ensures { λ r. ⌜ r ≡ pushedTo field (pieceOf (now (sizes .entry)) (now (coords .entry))) (rectangles (now (obstacles .entry))) i (spotsOf (now (spots .entry))) honoring f (suc backtracks) «max_step» ⌝ }
+    ensures { λ r. ⌜ toldOf r ≡ pushedTo field (pieceOf (now (sizes .entry)) (now (coords .entry))) (rectangles (now (obstacles .entry))) i (spotsOf (now (spots .entry))) honoring f (suc backtracks) «max_step» ⌝ }
 {
     let magnitude = float::hypot(f.x, f.y);
     if !is_finite(magnitude) | (magnitude <= 0.0) {
@@ -98,15 +98,15 @@ fn pushed_to(
     )
 }
 
-fn settle(m: Move, i: usize, spots: &mut [f64], clearances: &mut [f64])
-    requires { ⌜ (i < length (now clearances)) × (length (now spots) ≡ length (now clearances) * 2) ⌝ }
-    ensures { λ _. ⌜ scatterOf (now (spots .exit)) (now (clearances .exit)) ≡ settled (scatterOf (now (spots .entry)) (now (clearances .entry))) i m ⌝ }
+fn settle(m: Move, i: usize, spots: &mut [f64], unrooted: &mut [f64])
+    requires { ⌜ (i < length (now unrooted)) × (length (now spots) ≡ length (now unrooted) * 2) ⌝ }
+    ensures { λ _. ⌜ scatterOf (now (spots .exit)) (now (unrooted .exit)) ≡ settled (scatterOf (now (spots .entry)) (now (unrooted .entry))) i (toldOf m) ⌝ }
 {
     let Move::To(x, y, c) = m else {
         return;
     };
     put_spot(&mut spots[..], i, Point { x, y });
-    clearances[i] = c;
+    unrooted[i] = c;
 }
 
 pub fn relax_point(
@@ -115,16 +115,16 @@ pub fn relax_point(
     max_step: f64,
     i: usize,
     spots: &mut [f64],
-    clearances: &mut [f64],
+    unrooted: &mut [f64],
     honoring: &[f64],
     obstacles: &[f64],
     sizes: &[usize],
     coords: &[f64],
 )
-    requires { ⌜ (i < length (now clearances)) × (length (now spots) ≡ length (now clearances) * 2) × (length (now honoring) ≡ length (now clearances)) × (0 < length (now sizes)) × (sum (now sizes) * 2 ≤ length (now coords)) × Sound field ⌝ }
-    ensures { λ _. ⌜ scatterOf (now (spots .exit)) (now (clearances .exit)) ≡ relaxPoint numbers (surroundings field (now (honoring .entry)) (now (obstacles .entry)) (now (sizes .entry)) (now (coords .entry))) «max_step» (scatterOf (now (spots .entry)) (now (clearances .entry))) i ⌝ }
+    requires { ⌜ (i < length (now unrooted)) × (length (now spots) ≡ length (now unrooted) * 2) × (length (now honoring) ≡ length (now unrooted)) × (0 < length (now sizes)) × (sum (now sizes) * 2 ≤ length (now coords)) × Sound field ⌝ }
+    ensures { λ _. ⌜ scatterOf (now (spots .exit)) (now (unrooted .exit)) ≡ relaxPoint numbers (surroundings field (now (honoring .entry)) (now (obstacles .entry)) (now (sizes .entry)) (now (coords .entry))) «max_step» (scatterOf (now (spots .entry)) (now (unrooted .entry))) i ⌝ }
 {
-    let f = field.force_on(i, &spots[..], clearances[i], sizes, coords);
+    let f = field.force_on(i, &spots[..], unrooted[i], sizes, coords);
     let m = pushed_to(
         field,
         i,
@@ -137,5 +137,5 @@ pub fn relax_point(
         numbers.backtracks,
         max_step,
     );
-    settle(m, i, &mut spots[..], &mut clearances[..]);
+    settle(m, i, &mut spots[..], &mut unrooted[..]);
 }

@@ -1,4 +1,5 @@
-// relax.rs, `relax_scatter`. The clearances and the flags are kept in slices of one float for each mark.
+// relax.rs, `relax_scatter`. The clearances, their roots not taken, and the flags are kept in slices of one float for
+// each mark.
 ghost use mathlib.Core.Path.{_≡_};
 ghost use mathlib.Core.List.{map};
 ghost use Prim.Native.Nat.{_*_, _/_, _≤_, _<_};
@@ -6,17 +7,19 @@ ghost use lib.ListN.{length};
 ghost use Rattle.glyphs.specs.Rect.{rectangles};
 ghost use Rattle.glyphs.specs.Spots.{spotsOf, flat};
 ghost use Rattle.regions.specs.Ring.{sum, pieceOf};
+ghost use Rattle.regions.specs.Unrooted.{rooted};
 ghost use Rattle.relax.specs.Field.{Sound};
 ghost use Rattle.relax.specs.Scatter.{maxStepOf, relaxSweep, relaxSweeps, relaxScatter, clearancesOf, honoringOf, idle};
 ghost use Rattle.relax.specs.Moves.{scatterOf, surroundings, flagOf};
+ghost use Rattle.relax.specs.Notes.{unrootedOf};
 use crate::Spreading;
 use crate::field::Field;
 use crate::moves::relax_point;
 use glyphs::rect::is_finite;
 use glyphs::spots::spot;
-use regions::clearance::signed_clearance;
 use regions::margin::Margin;
 use regions::pillars::clears_obstacles;
+use regions::unrooted::unrooted_clearance;
 
 // The greatest step of sweep `k`.
 fn longest_step(numbers: Spreading, spacing: f64, k: u32) -> f64
@@ -31,14 +34,14 @@ fn relax_sweep(
     field: Field,
     k: u32,
     spots: &mut [f64],
-    clearances: &mut [f64],
+    unrooted: &mut [f64],
     honoring: &[f64],
     obstacles: &[f64],
     sizes: &[usize],
     coords: &[f64],
 )
-    requires { ⌜ (length (now spots) ≡ length (now clearances) * 2) × (length (now honoring) ≡ length (now clearances)) × (0 < length (now sizes)) × (sum (now sizes) * 2 ≤ length (now coords)) × Sound field ⌝ }
-    ensures { λ _. ⌜ scatterOf (now (spots .exit)) (now (clearances .exit)) ≡ relaxSweep numbers (surroundings field (now (honoring .entry)) (now (obstacles .entry)) (now (sizes .entry)) (now (coords .entry))) (scatterOf (now (spots .entry)) (now (clearances .entry))) k ⌝ }
+    requires { ⌜ (length (now spots) ≡ length (now unrooted) * 2) × (length (now honoring) ≡ length (now unrooted)) × (0 < length (now sizes)) × (sum (now sizes) * 2 ≤ length (now coords)) × Sound field ⌝ }
+    ensures { λ _. ⌜ scatterOf (now (spots .exit)) (now (unrooted .exit)) ≡ relaxSweep numbers (surroundings field (now (honoring .entry)) (now (obstacles .entry)) (now (sizes .entry)) (now (coords .entry))) (scatterOf (now (spots .entry)) (now (unrooted .entry))) k ⌝ }
 {
     let max_step = longest_step(numbers, field.spacing, k);
     let mut i = 0;
@@ -49,7 +52,7 @@ fn relax_sweep(
             max_step,
             i,
             &mut spots[..],
-            &mut clearances[..],
+            &mut unrooted[..],
             honoring,
             obstacles,
             sizes,
@@ -63,14 +66,14 @@ fn relax_sweeps(
     numbers: Spreading,
     field: Field,
     spots: &mut [f64],
-    clearances: &mut [f64],
+    unrooted: &mut [f64],
     honoring: &[f64],
     obstacles: &[f64],
     sizes: &[usize],
     coords: &[f64],
 )
-    requires { ⌜ (length (now spots) ≡ length (now clearances) * 2) × (length (now honoring) ≡ length (now clearances)) × (0 < length (now sizes)) × (sum (now sizes) * 2 ≤ length (now coords)) × Sound field ⌝ }
-    ensures { λ _. ⌜ scatterOf (now (spots .exit)) (now (clearances .exit)) ≡ relaxSweeps numbers (surroundings field (now (honoring .entry)) (now (obstacles .entry)) (now (sizes .entry)) (now (coords .entry))) (scatterOf (now (spots .entry)) (now (clearances .entry))) ⌝ }
+    requires { ⌜ (length (now spots) ≡ length (now unrooted) * 2) × (length (now honoring) ≡ length (now unrooted)) × (0 < length (now sizes)) × (sum (now sizes) * 2 ≤ length (now coords)) × Sound field ⌝ }
+    ensures { λ _. ⌜ scatterOf (now (spots .exit)) (now (unrooted .exit)) ≡ relaxSweeps numbers (surroundings field (now (honoring .entry)) (now (obstacles .entry)) (now (sizes .entry)) (now (coords .entry))) (scatterOf (now (spots .entry)) (now (unrooted .entry))) ⌝ }
 {
     let mut k = 0u32;
     while k < numbers.sweeps {
@@ -79,7 +82,7 @@ fn relax_sweeps(
             field,
             k,
             &mut spots[..],
-            &mut clearances[..],
+            &mut unrooted[..],
             honoring,
             obstacles,
             sizes,
@@ -89,14 +92,14 @@ fn relax_sweeps(
     }
 }
 
-fn note_clearances(spots: &[f64], clearances: &mut [f64], sizes: &[usize], coords: &[f64])
-    requires { ⌜ (length (now spots) ≡ length (now clearances) * 2) × (0 < length (now sizes)) × (sum (now sizes) * 2 ≤ length (now coords)) ⌝ }
-    ensures { λ _. ⌜ now (clearances .exit) ≡ clearancesOf (pieceOf (now (sizes .entry)) (now (coords .entry))) (spotsOf (now (spots .entry))) ⌝ }
+fn note_unrooted(spots: &[f64], unrooted: &mut [f64], sizes: &[usize], coords: &[f64])
+    requires { ⌜ (length (now spots) ≡ length (now unrooted) * 2) × (0 < length (now sizes)) × (sum (now sizes) * 2 ≤ length (now coords)) ⌝ }
+    ensures { λ _. ⌜ now (unrooted .exit) ≡ unrootedOf (pieceOf (now (sizes .entry)) (now (coords .entry))) (spotsOf (now (spots .entry))) ⌝ }
 {
     let mut i = 0;
-    while i < clearances.len() {
+    while i < unrooted.len() {
         let p = spot(spots, i);
-        clearances[i] = signed_clearance(p.x, p.y, sizes, coords);
+        unrooted[i] = unrooted_clearance(p.x, p.y, sizes, coords);
         i += 1;
     }
 }
@@ -132,12 +135,12 @@ fn idle(count: usize, spacing: f64) -> bool
     !is_finite(spacing) | (spacing <= 0.0)
 }
 
-// Evens the marks out. At exit `clearances` has the clearance of each, and `honoring` is 1 for those that were
+// Evens the marks out. At exit `unrooted` has the clearance of each, its root not taken, and `honoring` is 1 for those that were
 // clear of the obstacles at entry, else 0.
 pub fn relax_scatter(
     numbers: Spreading,
     spots: &mut [f64],
-    clearances: &mut [f64],
+    unrooted: &mut [f64],
     honoring: &mut [f64],
     sizes: &[usize],
     coords: &[f64],
@@ -145,11 +148,11 @@ pub fn relax_scatter(
     spacing: f64,
     inset: f64,
 )
-    requires { ⌜ (length (now spots) ≡ length (now clearances) * 2) × (length (now honoring) ≡ length (now clearances)) × (0 < length (now sizes)) × (sum (now sizes) * 2 ≤ length (now coords)) ⌝ }
-    ensures { λ _. ⌜ now (spots .exit) ≡ flat (relaxScatter numbers (spotsOf (now (spots .entry))) (pieceOf (now (sizes .entry)) (now (coords .entry))) (rectangles (now (obstacles .entry))) spacing inset) ⌝ ∗ ⌜ now (clearances .exit) ≡ clearancesOf (pieceOf (now (sizes .entry)) (now (coords .entry))) (relaxScatter numbers (spotsOf (now (spots .entry))) (pieceOf (now (sizes .entry)) (now (coords .entry))) (rectangles (now (obstacles .entry))) spacing inset) ⌝ ∗ ⌜ now (honoring .exit) ≡ map flagOf (honoringOf (rectangles (now (obstacles .entry))) inset (spotsOf (now (spots .entry)))) ⌝ }
+    requires { ⌜ (length (now spots) ≡ length (now unrooted) * 2) × (length (now honoring) ≡ length (now unrooted)) × (0 < length (now sizes)) × (sum (now sizes) * 2 ≤ length (now coords)) ⌝ }
+    ensures { λ _. ⌜ now (spots .exit) ≡ flat (relaxScatter numbers (spotsOf (now (spots .entry))) (pieceOf (now (sizes .entry)) (now (coords .entry))) (rectangles (now (obstacles .entry))) spacing inset) ⌝ ∗ ⌜ map rooted (now (unrooted .exit)) ≡ clearancesOf (pieceOf (now (sizes .entry)) (now (coords .entry))) (relaxScatter numbers (spotsOf (now (spots .entry))) (pieceOf (now (sizes .entry)) (now (coords .entry))) (rectangles (now (obstacles .entry))) spacing inset) ⌝ ∗ ⌜ now (honoring .exit) ≡ map flagOf (honoringOf (rectangles (now (obstacles .entry))) inset (spotsOf (now (spots .entry)))) ⌝ }
 {
     note_honoring(&spots[..], &mut honoring[..], obstacles, inset);
-    note_clearances(&spots[..], &mut clearances[..], sizes, coords);
+    note_unrooted(&spots[..], &mut unrooted[..], sizes, coords);
     if idle(honoring.len(), spacing) {
         return;
     }
@@ -157,7 +160,7 @@ pub fn relax_scatter(
         numbers,
         Field::of(numbers, spacing, inset),
         &mut spots[..],
-        &mut clearances[..],
+        &mut unrooted[..],
         &honoring[..],
         obstacles,
         sizes,

@@ -1,13 +1,15 @@
 -- `first_accepted` meets its contract. The invariant: the answer is that of the tries which are left, from `step` on.
 -- Rests on the laws of one try.
-use mathlib.Core.Path.{_≡_, refl, sym, _∙_}
+use mathlib.Core.Path.{_≡_, refl, sym, ap, _∙_}
 use Prim.Native.Nat.{suc, _-_}
 use native.Mathlib.Omega.{arith}
 use borrow.Author.Needs.{needs}
 use Rattle.glyphs.specs.Rect.{rectangles}
 use Rattle.glyphs.specs.Spots.{spotsOf}
 use Rattle.regions.specs.Ring.{pieceOf}
-use Rattle.relax.specs.Moves.{firstAccepted, first-refused, first-clear, none-accepted}
+use Rattle.regions.specs.Unrooted.{rooted}
+use Rattle.relax.specs.Field.{told}
+use Rattle.relax.specs.Moves.{toldOf, firstAccepted, first-refused, first-clear, none-accepted}
 use Rattle.relax.proofs.moves.first_accepted.Statement.{statement}
 use Rattle.relax.proofs.moves.first_accepted.Tie as tie
 
@@ -20,6 +22,7 @@ abbrev μ-loop : tie.MeasureT-loop
 μ-loop field i spots honoring obstacles sizes coords towards backtracks first p step₀ left₀ step left = left
 
 returns : tie.Need-returns Inv-loop μ-loop
+unfolding told toldOf
 returns c =
     let a = c .before .before .before .before .before .before .before .before .before .before .before .before .before .before .args in
     let l = c .before .before .before .before .before .before .before .before .loop in
@@ -29,11 +32,12 @@ returns c =
     rw (
       l .inv,
       first-clear (a .field) piece obstacles (a .i) (a .spots .now) (a .honoring) (a .towards) (omega arith) (q .result) (q .ensures) (l .left) (l .step)
-          (c .before .answer .given .0 .0)
-          (sym (c .before .before .before .accepts .ensures) ∙ c .before .answer .given .1),
+          (rooted (c .before .answer .given .0 .0))
+          (sym (c .before .before .before .accepts .ensures) ∙ ap told (c .before .answer .given .1)),
     )
 
 returns-2 : tie.Need-returns-2 Inv-loop μ-loop
+unfolding told toldOf
 returns-2 c =
     let a = c .before .before .before .before .before .before .before .before .before .before .before .before .before .before .args in
     let l = c .before .before .before .before .before .before .before .before .loop in
@@ -43,12 +47,13 @@ returns-2 c =
     rw (
       l .inv,
       first-refused (a .field) piece obstacles (a .i) (a .spots .now) (a .honoring) (a .towards) (omega arith) (q .result) (q .ensures) (l .left) (l .step)
-          (sym (c .before .before .before .accepts .ensures) ∙ c .before .enum-told .given .1),
+          (sym (c .before .before .before .accepts .ensures) ∙ ap told (c .before .enum-told .given .1)),
       c .if1 .taken,
       none-accepted,
     )
 
 loop-again : tie.Need-loop-again Inv-loop μ-loop
+unfolding told
 loop-again c =
     let a = c .before .before .before .before .before .before .before .before .before .before .before .before .before .before .args in
     let l = c .before .before .before .before .before .before .before .before .loop in
@@ -60,7 +65,7 @@ loop-again c =
       k,
       l .inv,
       first-refused (a .field) piece obstacles (a .i) (a .spots .now) (a .honoring) (a .towards) (omega arith) (q .result) (q .ensures) (l .left) (l .step)
-          (sym (c .before .before .before .accepts .ensures) ∙ c .before .enum-told .given .1),
+          (sym (c .before .before .before .accepts .ensures) ∙ ap told (c .before .enum-told .given .1)),
     )
 
 pub first-accepted-spec : {M : Type 1} → statement M

@@ -1,12 +1,12 @@
 -- `pushed_to` meets its contract: no move without a push, and else the first step that is accepted.
 -- Rests on the contracts of what it calls.
 use borrow.Author.Needs.{needs}
-use Rattle.relax.specs.Moves.{pushedTo}
+use Rattle.relax.specs.Moves.{pushedTo, toldOf}
 use Rattle.relax.proofs.moves.pushed_to.Statement.{statement}
 use Rattle.relax.proofs.moves.pushed_to.Tie as tie
 
 returns : tie.Need-returns
-unfolding pushedTo
+unfolding pushedTo toldOf
 returns c = rw (← c .before .before .hypot .ensures, ← c .before .is-finite .ensures, c .if1 .taken)
 
 returns-2 : tie.Need-returns-2

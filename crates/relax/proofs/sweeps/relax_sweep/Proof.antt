@@ -15,17 +15,17 @@ use Rattle.relax.proofs.sweeps.relax_sweep.Statement.{statement}
 use Rattle.relax.proofs.sweeps.relax_sweep.Tie as tie
 
 abbrev Inv-loop : tie.InvT-loop
-Inv-loop numbers field k spots₀ clearances₀ honoring obstacles sizes coords max-step i₀ spots clearances i =
+Inv-loop numbers field k spots₀ unrooted₀ honoring obstacles sizes coords max-step i₀ spots unrooted i =
     (i ≤ length honoring)
     × (length spots ≡ length honoring * 2)
-    × (length clearances ≡ length honoring)
-    × (foldl (relaxPoint numbers (surroundings field honoring obstacles sizes coords) max-step) (scatterOf spots₀ clearances₀)
+    × (length unrooted ≡ length honoring)
+    × (foldl (relaxPoint numbers (surroundings field honoring obstacles sizes coords) max-step) (scatterOf spots₀ unrooted₀)
     (upTo (length honoring))
-    ≡ foldl (relaxPoint numbers (surroundings field honoring obstacles sizes coords) max-step) (scatterOf spots clearances)
+    ≡ foldl (relaxPoint numbers (surroundings field honoring obstacles sizes coords) max-step) (scatterOf spots unrooted)
     (drop i (upTo (length honoring))))
 
 abbrev μ-loop : tie.MeasureT-loop
-μ-loop numbers field k spots₀ clearances₀ honoring obstacles sizes coords max-step i₀ spots clearances i = length honoring - i
+μ-loop numbers field k spots₀ unrooted₀ honoring obstacles sizes coords max-step i₀ spots unrooted i = length honoring - i
 
 loop-holds : tie.Need-loop-holds Inv-loop μ-loop
 loop-holds c = (search needs, search needs, search needs, refl)
@@ -47,7 +47,7 @@ loop-again c =
       search needs,
       search needs,
       l .inv .3
-          ∙ fold-step (relaxPoint (a .numbers) e step) (scatterOf (l .spots) (l .clearances)) (upTo n) (l .i) 0 h
+          ∙ fold-step (relaxPoint (a .numbers) e step) (scatterOf (l .spots) (l .unrooted)) (upTo n) (l .i) 0 h
           ∙ rw (upTo-at n (l .i) 0 (omega arith), ← c .before .before .before .before .relax-point .ensures),
     )
 
@@ -62,7 +62,7 @@ returns c =
     let h : length (upTo n) ≤ l .i = simp length-upTo (omega arith) in
     let m : length (spotsOf (a .spots .now)) ≡ n = simp length-spots (omega arith) in
     rw (m, ← step .ensures)
-    (sym (l .inv .3 ∙ fold-end (relaxPoint (a .numbers) e (step .result)) (scatterOf (l .spots) (l .clearances)) (upTo n) (l .i) h))
+    (sym (l .inv .3 ∙ fold-end (relaxPoint (a .numbers) e (step .result)) (scatterOf (l .spots) (l .unrooted)) (upTo n) (l .i) h))
 
 pub relax-sweep-spec : {M : Type 1} → statement M
 relax-sweep-spec =

@@ -14,16 +14,16 @@ use Rattle.relax.proofs.sweeps.relax_sweeps.Statement.{statement}
 use Rattle.relax.proofs.sweeps.relax_sweeps.Tie as tie
 
 abbrev Inv-loop : tie.InvT-loop
-Inv-loop numbers field spots₀ clearances₀ honoring obstacles sizes coords k₀ spots clearances k =
+Inv-loop numbers field spots₀ unrooted₀ honoring obstacles sizes coords k₀ spots unrooted k =
     (k ≤ numbers .sweeps)
     × (length spots ≡ length honoring * 2)
-    × (length clearances ≡ length honoring)
-    × (foldl (relaxSweep numbers (surroundings field honoring obstacles sizes coords)) (scatterOf spots₀ clearances₀) (upTo (numbers .sweeps))
-    ≡ foldl (relaxSweep numbers (surroundings field honoring obstacles sizes coords)) (scatterOf spots clearances)
+    × (length unrooted ≡ length honoring)
+    × (foldl (relaxSweep numbers (surroundings field honoring obstacles sizes coords)) (scatterOf spots₀ unrooted₀) (upTo (numbers .sweeps))
+    ≡ foldl (relaxSweep numbers (surroundings field honoring obstacles sizes coords)) (scatterOf spots unrooted)
     (drop k (upTo (numbers .sweeps))))
 
 abbrev μ-loop : tie.MeasureT-loop
-μ-loop numbers field spots₀ clearances₀ honoring obstacles sizes coords k₀ spots clearances k = numbers .sweeps - k
+μ-loop numbers field spots₀ unrooted₀ honoring obstacles sizes coords k₀ spots unrooted k = numbers .sweeps - k
 
 loop-holds : tie.Need-loop-holds Inv-loop μ-loop
 loop-holds c = (search needs, search needs, search needs, refl)
@@ -39,7 +39,7 @@ loop-again c =
       search needs,
       search needs,
       l .inv .3
-          ∙ fold-step (relaxSweep (a .numbers) e) (scatterOf (l .spots) (l .clearances)) (upTo n) (l .k) 0 h
+          ∙ fold-step (relaxSweep (a .numbers) e) (scatterOf (l .spots) (l .unrooted)) (upTo n) (l .k) 0 h
           ∙ rw (upTo-at n (l .k) 0 (omega arith), ← c .before .before .before .before .relax-sweep .ensures),
     )
 
@@ -51,7 +51,7 @@ returns c =
     let n = a .numbers .sweeps in
     let e = surroundings (a .field) (a .honoring .now) (a .obstacles .now) (a .sizes .now) (a .coords .now) in
     let h : length (upTo n) ≤ l .k = simp length-upTo (omega arith) in
-    sym (l .inv .3 ∙ fold-end (relaxSweep (a .numbers) e) (scatterOf (l .spots) (l .clearances)) (upTo n) (l .k) h)
+    sym (l .inv .3 ∙ fold-end (relaxSweep (a .numbers) e) (scatterOf (l .spots) (l .unrooted)) (upTo n) (l .k) h)
 
 pub relax-sweeps-spec : {M : Type 1} → statement M
 relax-sweeps-spec =

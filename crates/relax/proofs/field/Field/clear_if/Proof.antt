@@ -12,13 +12,13 @@ twice-not true h = h
 twice-not false h = h
 
 clears-requires : tie.Need-clears-obstacles-requires
-clears-requires c κs = margin-own _ _ (c .before .before .before .pre)
+clears-requires c κs = margin-own _ _ (c .before .before .before .pre .0)
 
 returns : tie.Need-returns
 returns c =
     let s = c .before .before .before .before in
     let a = s .args in
-    let e = ap (clearOfObstacles (a .place .x) (a .place .y) (rectangles (a .obstacles .now))) (least-of-margin (a .self .margin) (a .self .inset) (s .pre)) in
+    let e = ap (clearOfObstacles (a .place .x) (a .place .y) (rectangles (a .obstacles .now))) (least-of-margin (a .self .margin) (a .self .inset) (s .pre .0)) in
     rw (c .before .before .if1 .taken) (twice-not _ (c .clears-obstacles .ensures ∙ e))
 
 pub clear-if-spec : {M : Type 1} → statement M
