@@ -28,21 +28,26 @@ unfolding aboveCount
 at-most y v i zero = omega arith
 at-most y v i (suc m) = omega (arith, at-most y v i m, flag-le (yAt v (i + m) >ᶠ y))
 
-same-side : (x y xi yi xj yj : Float) → boolByte (yi >ᶠ y) ≡ boolByte (yj >ᶠ y) → intersect x y xi yi xj yj ≡ false
+-- an edge with both ends above the point, or neither, is not crossed
+pub same-side : (x y xi yi xj yj : Float) → (yi >ᶠ y) ≡ (yj >ᶠ y) → intersect x y xi yi xj yj ≡ false
 unfolding intersect
-same-side x y xi yi xj yj e = go (yi >ᶠ y) (yj >ᶠ y) _ e
+same-side x y xi yi xj yj e = rw e (go (yj >ᶠ y) _)
   where
-    go : (a b c : Bool) → boolByte a ≡ boolByte b → not (Bool·beq a b) && c ≡ false
-    go true true c e = refl
-    go true false c e = absurd (omega arith)
-    go false true c e = absurd (omega arith)
-    go false false c e = refl
+    go : (a b : Bool) → not (Bool·beq a a) && b ≡ false
+    go true b = refl
+    go false b = refl
+
+same-flag : (a b : Bool) → boolByte a ≡ boolByte b → a ≡ b
+same-flag true true e = refl
+same-flag true false e = absurd (omega arith)
+same-flag false true e = absurd (omega arith)
+same-flag false false e = refl
 
 module _ (x y : Float) (v : Ring) (n : ℕ) where
   -- a turn whose edge has both ends on one side changes nothing
   passed : (i : ℕ) → boolByte (yAt v (suc i) >ᶠ y) ≡ boolByte (yAt v i >ᶠ y) → insideAfter x y v n (suc (suc i)) ≡ insideAfter x y v n (suc i)
   unfolding insideAfter prev flip
-  passed i e = rw (same-side x y (xAt v (suc i)) (yAt v (suc i)) (xAt v i) (yAt v i) e)
+  passed i e = rw (same-side x y (xAt v (suc i)) (yAt v (suc i)) (xAt v i) (yAt v i) (same-flag (yAt v (suc i) >ᶠ y) (yAt v i >ᶠ y) e))
 
   one-more : (i m : ℕ) → boolByte (yAt v (i + suc m) >ᶠ y) ≡ boolByte (yAt v (i + m) >ᶠ y) → insideAfter x y v n (i + suc (suc m)) ≡ insideAfter x y v n (i + suc m)
   one-more i m e =

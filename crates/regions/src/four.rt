@@ -1,10 +1,11 @@
 // regions.rs, `signed_clearance` of four places at once: each edge is read once, and the four are worked out side by
 // side.
 ghost use mathlib.Core.Path.{_≡_};
-ghost use mathlib.Core.Bool.{cond, not, _&&_};
+ghost use mathlib.Core.Bool.{true, cond, not, _&&_};
 ghost use Prim.Native.Nat.{_*_, _<_, _≤_};
 ghost use lib.ListN.{length};
 ghost use lib.Ieee.{neg};
+ghost use Rattle.float.specs.Ops.{_>ᶠ_};
 ghost use Rattle.float.specs.Order.{sqrt};
 ghost use Rattle.regions.specs.Ring.{sum, pieceOf};
 ghost use Rattle.regions.specs.Inside.{intersect, flip, pointInPolygon};
@@ -96,10 +97,24 @@ fn rings_squares(xs: Four, ys: Four, sizes: &[usize], coords: &[f64]) -> Four
     best
 }
 
+// Whether each ordinate has both ends of an edge above it, or neither, so that the edge is crossed for none.
+fn on_one_side_of_all(ys: Four, yi: f64, yj: f64) -> bool
+    ensures { λ r. ⌜ (r ≡ true → (k : Which) → yi >ᶠ at k ys ≡ yj >ᶠ at k ys) ⌝ }
+{
+    let a = (yi > ys.a) == (yj > ys.a);
+    let b = (yi > ys.b) == (yj > ys.b);
+    let c = (yi > ys.c) == (yj > ys.c);
+    let d = (yi > ys.d) == (yj > ys.d);
+    a & b & c & d
+}
+
 // The flags turned over where the edge between the vertices i and j is crossed.
 fn turned_all(xs: Four, ys: Four, inside: Flags, xi: f64, yi: f64, xj: f64, yj: f64) -> Flags
     ensures { λ r. ⌜ ((k : Which) → told k r ≡ flip (intersect (at k xs) (at k ys) xi yi xj yj) (told k inside)) ⌝ }
 {
+    if on_one_side_of_all(ys, yi, yj) {
+        return inside;
+    }
     Flags {
         a: turned_by(xs.a, ys.a, inside.a, xi, yi, xj, yj),
         b: turned_by(xs.b, ys.b, inside.b, xi, yi, xj, yj),
