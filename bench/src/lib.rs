@@ -1,4 +1,4 @@
-//! What the programs share: random bits, a ring, a whole job over lent slices, and the time of a call.
+//! What the programs share: random bits, a zone, a whole job over lent slices, and the time of a call.
 mod beside;
 pub mod floors;
 mod lent;
@@ -31,7 +31,7 @@ impl Bits {
 }
 
 /// A star of n vertices, in 1/1024, of radius up to 10.
-pub fn star(n: usize, bits: &mut Bits) -> Vec<[i32; 2]> {
+fn star(n: usize, bits: &mut Bits) -> Vec<[i32; 2]> {
     (0..n)
         .map(|k| {
             let (r, a) = (10240.0 * (0.8 + 0.2 * bits.unit()), TAU * k as f64 / n as f64);

@@ -1,4 +1,5 @@
-/* The inner layers of the port, one by one, for tests/differential alone.
+/* The inner layers of the port, one by one, for tests/differential and bench
+ * alone; probes/src/c.rs declares them for Rust.
  *
  * A piece is its ring sizes, the outer ring first, and the coordinates of its
  * vertices, x and y in turn, ring after ring: `floats` is twice the sum of the
@@ -6,8 +7,7 @@
  * all with positive width and height: centre x, centre y, width, height.
  * Work slices are of 8,000 floats each unless a comment says otherwise.
  *
- * The harness looks which of these symbols libprobes.a has, and compares only
- * those. All floats are compared by their bits, NaNs as equal.
+ * All floats are compared by their bits, NaNs as equal.
  */
 #ifndef PROBES_H
 #define PROBES_H
@@ -18,7 +18,6 @@
 #define PIECE                                                                  \
     const uint64_t *ring_sizes, size_t rings, const double *coords, size_t floats
 #define OBSTACLES const double *obstacles, size_t obstacle_floats
-#define JOB const uint8_t *job, size_t job_length
 #define WORK                                                                   \
     double *first, size_t first_length, double *second, size_t second_length
 
@@ -78,14 +77,5 @@ PACKER(probe_pack_random);
 /* relax.rs relax_scatter on the spots; obstacles are those near the piece. */
 void probe_relax_scatter(PIECE, OBSTACLES, double spacing, double inset,
                          double *spots, size_t spot_floats);
-
-/* discs.rs analytic_r_hi for a job that passes row 14 and whose radius is
- * automatic: 1 with the ceiling; 0 without one or with no zone left in; 15
- * where a search has too many cells. For 0 and 15 `ceiling` is as it was. */
-uint8_t probe_ceiling(JOB, WORK, double *ceiling);
-
-/* discs.rs place_glyphs: the radius of an accepted job with its two trial
- * counts, free of obstacles and with them. */
-double probe_radius(JOB, WORK, uint32_t trials[2]);
 
 #endif

@@ -1,9 +1,6 @@
 //! The root beside the hardware's.
 use bench::{Bits, line, time};
-
-unsafe extern "C" {
-    fn marks_root(x: f64) -> f64;
-}
+use probes::entries::marks_root;
 
 fn main() {
     let mut bits = Bits(0x9e37_79b9_7f4a_7c15);
@@ -15,6 +12,6 @@ fn main() {
     println!("{:<56} {:>12} {:>12} {:>7}", "root", "hardware", "ours", "times");
     for (name, make) in kinds {
         let values: Vec<f64> = (0..1_000_000).map(|_| make(bits.draw())).collect();
-        line(name, time(&values, |x| x.sqrt()), time(&values, |x| unsafe { marks_root(x) }));
+        line(name, time(&values, |x| x.sqrt()), time(&values, |x| marks_root(x)));
     }
 }

@@ -1,64 +1,21 @@
 //! The lattices and low discrepancy whole, the random packer without and with its relaxation, and the relaxation alone,
 //! on one zone, beside the Rust original.
-use bench::packing::{Packer, Zone};
+use bench::packing::Zone;
 use bench::{Bits, line, time};
 use oracle::geometry::primitives::Point;
 use oracle::plotting::glyphs::GlyphArrangement;
 use oracle::plotting::glyphs::discs::layers::{self, Packing};
+use probes::flat_points;
 use std::f64::consts::PI;
 
-macro_rules! packers {
-    ($($name:ident),*) => {
-        unsafe extern "C" {
-            $(fn $name(
-                sizes: *const u64,
-                rings: usize,
-                coords: *const f64,
-                floats: usize,
-                obstacles: *const f64,
-                obstacle_floats: usize,
-                settings: *const f64,
-                quota: u64,
-                attempts: u32,
-                spread: u8,
-                strict: u8,
-                state: *mut u64,
-                first: *mut f64,
-                first_length: usize,
-                second: *mut f64,
-                second_length: usize,
-                spots: *mut f64,
-                spot_floats: usize,
-            ) -> u64;)*
-            fn probe_relax_scatter(
-                sizes: *const u64,
-                rings: usize,
-                coords: *const f64,
-                floats: usize,
-                obstacles: *const f64,
-                obstacle_floats: usize,
-                spacing: f64,
-                inset: f64,
-                spots: *mut f64,
-                spot_floats: usize,
-            );
-        }
-    };
-}
-packers!(probe_pack_uniform, probe_pack_rectangular, probe_pack_low_discrepancy, probe_pack_random);
-
 /// The arrangements that draw nothing at random.
-const STEADY: [(&str, GlyphArrangement, Packer); 3] = [
-    ("uniform", GlyphArrangement::Uniform, probe_pack_uniform),
-    ("rectangular", GlyphArrangement::Rectangular, probe_pack_rectangular),
-    ("low discrepancy", GlyphArrangement::LowDiscrepancy, probe_pack_low_discrepancy),
+const STEADY: [(&str, GlyphArrangement); 3] = [
+    ("uniform", GlyphArrangement::Uniform),
+    ("rectangular", GlyphArrangement::Rectangular),
+    ("low discrepancy", GlyphArrangement::LowDiscrepancy),
 ];
 
 const ATTEMPTS: u32 = 200;
-
-fn flat(spots: &[Point]) -> Vec<f64> {
-    spots.iter().flat_map(|p| [p.x(), p.y()]).collect()
-}
 
 /// A whole packing of each steady arrangement: strict, and spread where it is a lattice.
 fn steady(quota: usize, edges: usize, bits: &mut Bits) {
@@ -66,27 +23,22 @@ fn steady(quota: usize, edges: usize, bits: &mut Bits) {
     // Parts of the area that the marks cover.
     let covers: Vec<f64> = (0..6).map(|_| 0.25 + 0.1 * bits.unit()).collect();
     let radius = |cover: f64| (cover * zone.piece.area() / (PI * quota as f64)).sqrt();
-    for (name, arrangement, packer) in STEADY {
-        let rust = |cover: f64| {
-            let packing = Packing {
-                arrangement,
-                quota,
-                precision: 0.5,
-                attempts: ATTEMPTS,
-                radius: radius(cover),
-                gap: 0.1,
-                boundary_gap: 0.1,
-                obstacles: &[],
-                spread: true,
-                strict: true,
-                state: 0,
-            };
-            flat(&layers::pack_piece(&zone.piece, &packing).0)
+    for (name, arrangement) in STEADY {
+        let packing = |cover: f64| Packing {
+            arrangement,
+            quota,
+            precision: 0.5,
+            attempts: ATTEMPTS,
+            radius: radius(cover),
+            gap: 0.1,
+            boundary_gap: 0.1,
+            obstacles: &[],
+            spread: true,
+            strict: true,
+            state: 0,
         };
-        let ours = |cover: f64| {
-            let settings = [radius(cover), 0.1, 0.1, 0.5];
-            zone.pack(packer, settings, quota, ATTEMPTS, true, true, 0).0
-        };
+        let rust = |cover: f64| flat_points(&layers::pack_piece(&zone.piece, &packing(cover)).0);
+        let ours = |cover: f64| zone.pack(&packing(cover)).0;
         assert!(covers.iter().all(|&c| rust(c) == ours(c)));
         line(&format!("{name}, {quota} marks, {edges} edges"), time(&covers, rust), time(&covers, ours));
     }
@@ -113,10 +65,9 @@ fn random(quota: usize, bits: &mut Bits) {
     for (name, spread) in [("thrown", false), ("random", true)] {
         let rust = |state: u64| {
             let (spots, state) = layers::pack_piece(&zone.piece, &packing(state, spread));
-            (flat(&spots), state)
+            (flat_points(&spots), state)
         };
-        let settings = [radius, 0.0, 0.0, 1.0];
-        let ours = |state: u64| zone.pack(probe_pack_random, settings, quota, ATTEMPTS, spread, false, state);
+        let ours = |state: u64| zone.pack(&packing(state, spread));
         assert!(states.iter().all(|&s| rust(s) == ours(s)));
         line(&format!("{name}, {quota} marks, 16 edges"), time(&states, rust), time(&states, ours));
     }
@@ -128,24 +79,11 @@ fn relaxation(zone: &Zone, thrown: &[Point], radius: f64) {
     let rust = |spacing: f64| {
         let mut spots = thrown.to_vec();
         layers::relax_scatter(&mut spots, &zone.piece, &[], spacing, radius);
-        flat(&spots)
+        flat_points(&spots)
     };
     let ours = |spacing: f64| {
-        let mut spots = flat(thrown);
-        unsafe {
-            probe_relax_scatter(
-                zone.sizes.as_ptr(),
-                1,
-                zone.coords.as_ptr(),
-                zone.coords.len(),
-                [0.0; 0].as_ptr(),
-                0,
-                spacing,
-                radius,
-                spots.as_mut_ptr(),
-                spots.len(),
-            );
-        }
+        let mut spots = flat_points(thrown);
+        zone.lent().relax_scatter(&[], spacing, radius, &mut spots);
         spots
     };
     let spacings = [2.0 * radius];

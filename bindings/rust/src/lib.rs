@@ -17,11 +17,14 @@
 //! from the folder that the variable `MARKS_LIB` names, by default the
 //! repository's `target/staticlib`.
 
+mod entry;
 mod refusal;
 mod sheet;
 
 pub use refusal::Refusal;
 pub use sheet::{Sheet, Spot, Zone};
+
+use entry::marks_plan;
 
 /// Each work slice has at least so many floats.
 pub const WORK_FLOATS: usize = 8_000;
@@ -100,19 +103,4 @@ pub fn plan_into<'a>(
     }
     let trials = Trials { free_of_obstacles, with_obstacles };
     Ok(Given { sheet: &sheet[..length as usize], trials })
-}
-
-// include/marks.h
-unsafe extern "C" {
-    fn marks_plan(
-        job: *const u8,
-        job_length: usize,
-        first: *mut f64,
-        first_length: usize,
-        second: *mut f64,
-        second_length: usize,
-        sheet: *mut u8,
-        sheet_length: usize,
-        answer: *mut u32,
-    ) -> u32;
 }

@@ -1,4 +1,4 @@
-//! A list of comparisons, of which some may be left out.
+//! A list of comparisons, of which some may be named.
 
 use std::env;
 use std::path::PathBuf;
@@ -13,24 +13,10 @@ pub struct Run {
     pub recorded: PathBuf,
 }
 
-/// A comparison, or `None` where the library lacks its symbol.
-pub type Comparison = (&'static str, Option<fn(&Run) -> Tally>);
-
-/// The named function where the symbol is there, else `None`.
-#[macro_export]
-macro_rules! where_present {
-    ($cfg:ident, $function:path) => {{
-        #[cfg($cfg)]
-        let function: Option<fn(&$crate::comparison::Run) -> $crate::tally::Tally> =
-            Some($function);
-        #[cfg(not($cfg))]
-        let function: Option<fn(&$crate::comparison::Run) -> $crate::tally::Tally> = None;
-        function
-    }};
-}
+pub type Comparison = (&'static str, fn(&Run) -> Tally);
 
 /// Runs the comparisons that the arguments name (`NAME..`, none for all) with
-/// `--jobs N`; fails on a difference, or where a named one is left out.
+/// `--jobs N`; fails on a difference, or where a name is not known.
 pub fn run(comparisons: &[Comparison]) -> ExitCode {
     let mut wanted: Vec<String> = env::args().skip(1).collect();
     let mut jobs = 5_000;
@@ -52,17 +38,9 @@ pub fn run(comparisons: &[Comparison]) -> ExitCode {
             good = false;
         }
     }
-    for (name, comparison) in comparisons {
-        let named = wanted.iter().any(|word| word == name);
-        if !named && !wanted.is_empty() {
-            continue;
-        }
-        match comparison {
-            Some(compare) => good &= compare(&run).report(),
-            None => {
-                println!("{name}: left out, the library has no such symbol");
-                good &= !named;
-            }
+    for (name, compare) in comparisons {
+        if wanted.is_empty() || wanted.iter().any(|word| word == name) {
+            good &= compare(&run).report();
         }
     }
     if good { ExitCode::SUCCESS } else { ExitCode::FAILURE }

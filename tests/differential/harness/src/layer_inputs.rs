@@ -1,6 +1,5 @@
 //! Inputs of the inner layers, taken from the mixed run's jobs.
 
-use oracle::geometry::primitives::Point;
 use oracle::geometry::shapes::Rectangle;
 use oracle::job::{self, Job};
 use oracle::judge;
@@ -120,15 +119,4 @@ pub fn obstacles(job: &Job) -> Vec<Rectangle> {
     let mut obstacles = judge::obstacles_of(job);
     obstacles.retain(|rect| rect.width() > 0.0 && rect.height() > 0.0);
     obstacles
-}
-
-pub fn flat_obstacles(obstacles: &[Rectangle]) -> Vec<f64> {
-    obstacles
-        .iter()
-        .flat_map(|rect| [rect.center().x(), rect.center().y(), rect.width(), rect.height()])
-        .collect()
-}
-
-pub fn flat_points(points: &[Point]) -> Vec<f64> {
-    points.iter().flat_map(|point| [point.x(), point.y()]).collect()
 }

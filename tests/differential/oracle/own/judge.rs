@@ -75,7 +75,7 @@ pub fn unless_too_many_wait<T>(work: impl FnOnce() -> T) -> Option<T> {
 }
 
 /// The ceiling that the reference works out for an automatic radius.
-pub fn ceiling(job: &Job) -> Option<f64> {
+fn ceiling(job: &Job) -> Option<f64> {
     if job.head.radius.is_some() {
         return None;
     }

@@ -1,20 +1,16 @@
 //! Root against the machine's; hash, radical inverse and quotas against the
 //! functions of the source. The refusals are document 01's.
-#![allow(dead_code, unused_imports)]
 
 use harness::comparison::Run;
 use harness::leaf_inputs::{hashed, inverse_input, quota_input, radicand};
 use harness::tally::{Tally, on_two_threads, same_float};
 use oracle::plotting::glyphs::discs::layers;
+use probes::entries::{marks_hash, marks_quotas, marks_radical_inverse, marks_root};
 
 const ROOTS: u64 = 12_000_000;
 const OTHERS: u64 = 1_200_000;
 
-#[cfg(has_marks_root)]
 pub fn root(run: &Run) -> Tally {
-    unsafe extern "C" {
-        safe fn marks_root(x: f64) -> f64;
-    }
     on_two_threads("root", &run.kept, ROOTS, |tally, number| {
         let x = radicand(number);
         let (given, wanted) = (marks_root(x), x.sqrt());
@@ -25,11 +21,7 @@ pub fn root(run: &Run) -> Tally {
     })
 }
 
-#[cfg(has_marks_hash)]
 pub fn hash(run: &Run) -> Tally {
-    unsafe extern "C" {
-        fn marks_hash(bytes: *const u8, length: usize) -> u64;
-    }
     on_two_threads("hash", &run.kept, OTHERS, |tally, number| {
         let bytes = hashed(number);
         let given = unsafe { marks_hash(bytes.as_ptr(), bytes.len()) };
@@ -37,11 +29,7 @@ pub fn hash(run: &Run) -> Tally {
     })
 }
 
-#[cfg(has_marks_radical_inverse)]
 pub fn radical_inverse(run: &Run) -> Tally {
-    unsafe extern "C" {
-        fn marks_radical_inverse(index: u64, base: u64, number: *mut u8) -> f64;
-    }
     on_two_threads("radical-inverse", &run.kept, OTHERS, |tally, number| {
         let (index, base) = inverse_input(number);
         let wanted = if (2..=65_536).contains(&base) {
@@ -50,7 +38,7 @@ pub fn radical_inverse(run: &Run) -> Tally {
             (0.0, 17)
         };
         let mut refusal = 255;
-        let value = unsafe { marks_radical_inverse(index, base, &mut refusal) };
+        let value = marks_radical_inverse(index, base, &mut refusal);
         let same = same_float(value, wanted.0) && refusal == wanted.1;
         tally.count(same, || {
             let text = format!("index {index} base {base}: {value:e} {refusal}, not {wanted:?}\n");
@@ -59,17 +47,7 @@ pub fn radical_inverse(run: &Run) -> Tally {
     })
 }
 
-#[cfg(has_marks_quotas)]
 pub fn quotas(run: &Run) -> Tally {
-    unsafe extern "C" {
-        fn marks_quotas(
-            count: u64,
-            weights: *const f64,
-            length: usize,
-            quotas: *mut u64,
-            room: usize,
-        ) -> u8;
-    }
     on_two_threads("quotas", &run.kept, OTHERS, |tally, number| {
         let input = quota_input(number);
         let weights = &input.weights;

@@ -1,5 +1,4 @@
 //! The call from job bytes to sheet: its answer, and every lent byte and float.
-#![cfg(has_marks_plan)]
 
 use std::fs;
 
@@ -11,20 +10,7 @@ use harness::recorded::parse;
 use harness::rng::Rng;
 use harness::tally::{Tally, on_two_threads};
 use oracle::judge::{Answer, Lent, Outcome, answer};
-
-unsafe extern "C" {
-    fn marks_plan(
-        job: *const u8,
-        job_length: usize,
-        first: *mut f64,
-        first_length: usize,
-        second: *mut f64,
-        second_length: usize,
-        sheet: *mut u8,
-        sheet_length: usize,
-        answer: *mut u32,
-    ) -> u32;
-}
+use probes::entries::marks_plan;
 
 const WORK_FLOATS: usize = 8_000;
 
