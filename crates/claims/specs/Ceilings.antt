@@ -4,7 +4,7 @@ use mathlib.Core.Path.{_≡_, refl, subst}
 use mathlib.Core.Logic.{_⊎_, inl, inr}
 use mathlib.Core.Bool.{Bool, true, false, cond, _&&_}
 use mathlib.Core.List.{List, [], _∷_, foldl}
-use Prim.Native.Nat.{ℕ, _*_, _≤_}
+use Prim.Native.Nat.{ℕ}
 use native.Mathlib.Omega.{arith}
 use lib.Dec.{T, lit<, lit≤}
 use lib.Ieee.{Float, binary64, fits, lt, ofBits}
@@ -17,11 +17,9 @@ use Rattle.float.specs.Order.{abs, min}
 use Rattle.float.specs.Laws.Fits.{rootOf-fits}
 use Rattle.float.specs.Laws.Order.{min-fits, min-number-r, min-le-l, min-le-r}
 use Rattle.float.specs.Laws.Compare.{le-trans, lt-le}
-use Rattle.rounding.specs.Signed.{signed, plain, _≼_}
-use Rattle.rounding.specs.Value.{U, sgn, mag, val, digits-whole}
 use Rattle.rounding.specs.Comparison.{le→≼}
-use Rattle.rounding.specs.Errors.{add-of-finite}
-use Rattle.rounding.specs.Bounds.{Sized, wider, add-sized, div-sized-by, ranged}
+use Rattle.rounding.specs.Bounds.{Sized, wider, div-sized-by, ranged}
+use Rattle.rounding.specs.Lengths.{factor}
 use Rattle.rounding.specs.Signs.{Nonneg, zero-num, zero-val, zero-sized}
 use Rattle.glyphs.specs.Rect.{isFinite}
 use Rattle.regions.specs.Sizes.{sized-number}
@@ -33,28 +31,6 @@ use Rattle.discs.specs.Region.{Zone}
 use Rattle.discs.specs.declared.ceiling.Chosen.the-variants.{None, Some}
 use Rattle.discs.specs.Radius.{areaOf, lowered, ifPositive, analyticRHi}
 use Rattle.claims.specs.Deepest.{OfFound, Deep, poi-deep}
-
--- ---- 1 + gap
-one-sized : Sized 1ᶠ 1
-one-sized = record { num = unfold ofBits fits in record { fit = tt; fine = tt }; size = unfold ofBits mag U in lit≤ tt }
-
-one-val : val 1ᶠ ≡ signed false (1 * U)
-unfolding ofBits sgn mag U
-one-val = refl
-
-pub record Factor (f : Float) : Type 0 where
-  pub sized : Sized f 17
-  pub nonneg : Nonneg f
-  pub least : U ≤ mag f
-
-pub factor : (gap : Float) → Sized gap 16 → Nonneg gap → Factor (1ᶠ +ᶠ gap)
-factor gap g o =
-    let f = 1ᶠ +ᶠ gap in
-    let s = add-sized one-sized g (lit< tt) in
-    let r = add-of-finite 1ᶠ gap (one-sized .num) (g .num) (s .num .fine) in
-    let l : signed false (1 * U) ≼ val f = r .least false (1 * U) (digits-whole 1 (lit< tt)) (rw one-val (omega (arith, o))) in
-    let n : Nonneg f = omega (arith, l) in
-    record { sized = s; nonneg = n; least = omega (arith, l, plain (sgn f) (mag f) n) }
 
 -- what is known of the ceiling
 pub record Top (r-hi : Float) : Type 0 where

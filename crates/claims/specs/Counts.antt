@@ -1,53 +1,37 @@
 -- No packer places more marks than it is asked for; that relaxation keeps their number is a law of its crate.
 -- Rests on the lengths of parts and sorted lists.
-use mathlib.Core.Path.{_≡_, refl, ap, _∙_}
+use mathlib.Core.Path.{_≡_, refl}
 use mathlib.Core.Bool.{Bool, true, false, cond, _||_}
 use mathlib.Core.Logic.{inl, inr}
 use mathlib.Core.List.{List, [], _∷_, _++_}
-use Prim.Native.Nat.{ℕ, zero, suc, _+_, _-_, _<_, _≤_, Ordering, Ordering·lt, Ordering·eq, Ordering·gt}
+use Prim.Native.Nat.{ℕ, zero, suc, _+_, _-_, _<_, _≤_}
 use native.Mathlib.Omega.{arith}
 use native.Mathlib.Nat.{eq-or-lt-of-le}
 use lib.Dec.{eqb, leb}
 use lib.ListN.{length, take, length-append, length-take}
 use lib.Ieee.{Float}
 use borrow.Author.Tests.{leb-false, eq-eqb, ne-eqb}
-use Rattle.laws.specs.Sort.{place, insert, sortBy}
 use Rattle.glyphs.specs.declared.rect.Point.{Point}
 use Rattle.glyphs.specs.declared.rect.Rectangle.{Rectangle}
 use Rattle.glyphs.specs.declared.stream.Stream.{Stream}
 use Rattle.regions.specs.Ring.{Piece}
 use Rattle.lattice.specs.declared.context.PackCtx.{PackCtx}
-use Rattle.lattice.specs.Lattice.{HexCells, byAnchor, sortByAnchor, takeCells}
+use Rattle.lattice.specs.Lattice.{HexCells, sortByAnchor, takeCells}
+use Rattle.lattice.specs.Spread.{length-sort}
 use Rattle.scatter.specs.declared.low.Anchor.{Anchor}
 use Rattle.scatter.specs.LowDiscrepancy.{budget, candidate, admits, pass, passes}
 use Rattle.scatter.specs.Random.{Thrown, Dart, hit, miss, afterDart, throw, glyphs, throws}
 
--- ---- sorting
-length-place : {A : Type 0} (cmp : A → A → Ordering) (o : Ordering) (x y : A) (ys into : List A) → length into ≡ suc (length ys) → length (place cmp o x y ys into) ≡ suc (suc (length ys))
-length-place cmp Ordering·lt x y ys into h = refl
-length-place cmp Ordering·eq x y ys into h = refl
-length-place cmp Ordering·gt x y ys into h = ap suc h
-
-length-insert : {A : Type 0} (cmp : A → A → Ordering) (x : A) (xs : List A) → length (insert cmp x xs) ≡ suc (length xs)
-unfolding insert
-length-insert cmp x [] = refl
-length-insert cmp x (y ∷ ys) = length-place cmp (cmp x y) x y ys (insert cmp x ys) (length-insert cmp x ys)
-
-length-sort : {A : Type 0} (cmp : A → A → Ordering) (xs : List A) → length (sortBy cmp xs) ≡ length xs
-unfolding sortBy
-length-sort cmp [] = refl
-length-sort cmp (x ∷ xs) = length-insert cmp x (sortBy cmp xs) ∙ ap suc (length-sort cmp xs)
-
 -- ---- the lattice
 pub taken-count : (cells : HexCells) (n : ℕ) (anchor : Point) (honoring : Bool) → length (takeCells cells n anchor honoring) ≤ n
-unfolding takeCells sortByAnchor
+unfolding takeCells
 taken-count cells n anchor honoring = go honoring (leb n (length (cells .free))) refl
   where
     free : List Point
-    free = sortBy (byAnchor anchor) (cells .free)
+    free = sortByAnchor anchor (cells .free)
 
     more : List Point
-    more = take (n - length (cells .free)) (sortBy (byAnchor anchor) (cells .blocked))
+    more = take (n - length (cells .free)) (sortByAnchor anchor (cells .blocked))
 
     some : length (take n free) ≤ n
     some = rw (length-take n free) (omega arith)
@@ -57,7 +41,7 @@ taken-count cells n anchor honoring = go honoring (leb n (length (cells .free)))
     go false true e = some
     go false false e =
         let l : length (cells .free) < n = leb-false n (length (cells .free)) e in
-        rw (length-append free more, length-take (n - length (cells .free)) (sortBy (byAnchor anchor) (cells .blocked)), length-sort (byAnchor anchor) (cells .free)) (omega arith)
+        rw (length-append free more, length-take (n - length (cells .free)) (sortByAnchor anchor (cells .blocked)), length-sort anchor (cells .free)) (omega arith)
 
 -- ---- low discrepancy
 module _ (piece : Piece) (n : ℕ) (ctx : PackCtx) (near : List Rectangle) (anchor : Anchor) (min-x max-x min-y max-y : Float) where

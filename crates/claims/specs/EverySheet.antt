@@ -31,7 +31,8 @@ use Rattle.sheet.specs.Back.{WritableSheet, sheet-back}
 use Rattle.job.specs.Head.{lentFault, workFault}
 use Rattle.job.specs.Job.{Job, jobOf, itemsFault, sheetFault}
 use Rattle.job.specs.Known.{ZoneKnown, marksOf, JobKnown, job-known}
-use Rattle.job.specs.Plan.{room, leastCeiling, lowFault, ceilingOf, searchFault, ceilingFault, numberOf, source, placementsOf, placementOf, sheetFor, Plan, given, refused, planOf}
+use Rattle.relax.specs.Scatter.{source}
+use Rattle.job.specs.Plan.{room, leastCeiling, lowFault, ceilingOf, searchFault, ceilingFault, numberOf, placementsOf, placementOf, sheetFor, Plan, given, refused, planOf}
 use Rattle.claims.specs.Claim.{pillarsOf, SheetKept}
 use Rattle.claims.specs.Ceilings.{Top, ceiling-known}
 use Rattle.claims.specs.Chosen.{High, TopKnown}

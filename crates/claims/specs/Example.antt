@@ -47,7 +47,8 @@ use Rattle.format.specs.Pieces.{ring, ringFault, ringEnd, piece, pieceFault, pi
 use Rattle.job.specs.Head.{lentFault, numberAfter, choicesFault, measuresFault, headFault, arrangementOf, policyOf, radiusOf, boundaryOf, optionsOf, obstacles, obstaclesFault, obstaclesEnd}
 use Rattle.job.specs.Zones.{zone, letter, letterFault, above, keyAt, keyFault, countsFault, countAt, zoneEnd, openingFault, zoneFault, zoneNext}
 use Rattle.job.specs.Job.{Job, jobOf, zones, zonesEnd, zonesFault, itemsFault}
-use Rattle.job.specs.Plan.{room, source, placementsOf}
+use Rattle.relax.specs.Scatter.{source}
+use Rattle.job.specs.Plan.{room, placementsOf}
 use Rattle.claims.specs.Claim.{pillarsOf, placedOf}
 
 -- LowDiscrepancy, Strict, radius 1, gap 0 followed, precision 1, no attempts, seed 0; a pillar of 2 by 2 at (6, 4); zone `A`, count 2, the square (0, 0) to (12, 12)

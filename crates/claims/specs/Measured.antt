@@ -8,6 +8,7 @@ use lib.Ieee.{Float}
 use Rattle.float.specs.Ops.{_+ᶠ_, _*ᶠ_, 0ᶠ, 1ᶠ}
 use Rattle.float.specs.Order.{max}
 use Rattle.rounding.specs.Bounds.{wider}
+use Rattle.rounding.specs.Lengths.{inset-sized, spacing-sized, spacing-length}
 use Rattle.glyphs.specs.declared.rect.Rectangle.{Rectangle}
 use Rattle.glyphs.specs.declared.bounds.Bounds.{Bounds}
 use Rattle.glyphs.specs.declared.bounds.Bounds.the-variants.{Box, Nothing}
@@ -26,7 +27,7 @@ use Rattle.claims.specs.Claim.{context}
 use Rattle.claims.specs.Boxed.{boxed}
 use Rattle.claims.specs.Measures.{BoxSized, Measures}
 use Rattle.claims.specs.Radii.{Usable}
-use Rattle.claims.specs.Insets.{Gap, not-below, gap-of, inset-sized, inset-above, spacing-sized, spacing-length}
+use Rattle.claims.specs.Insets.{Gap, not-below, gap-of, inset-above}
 use Rattle.claims.specs.Within.{outer-known, inset-placed}
 
 -- ---- the box
@@ -59,9 +60,9 @@ module _ (k : ℕ) (few : k ≤ 1084) (options : GlyphOptions) (o : OptionsKnown
   measured piece known =
       record {
         box = box-sized (outer piece) (outer-known piece known);
-        length = spacing-length k few radius (gapOf options) R G;
-        short = spacing-sized k few radius (gapOf options) R G .size;
-        number = sized-number (inset-sized k few radius (boundaryGapOf options) R B);
+        length = spacing-length k few radius (gapOf options) (R .sized) (R .nonneg) (G .sized) (G .nonneg) (R .least);
+        short = spacing-sized k few radius (gapOf options) (R .sized) (R .nonneg) (G .sized) (G .nonneg) .size;
+        number = sized-number (inset-sized k few radius (boundaryGapOf options) (R .sized) (R .nonneg) (B .sized) (B .nonneg));
         sited = λ p s.
             let q = inset-placed (p .x) (p .y) (radius *ᶠ (1ᶠ +ᶠ boundaryGapOf options)) piece known (s .fits .across) (s .fits .along) (inset-above k few radius (boundaryGapOf options) R B) (s .deep) in
             record { across = wider (lit≤ tt) (q .across); along = wider (lit≤ tt) (q .along) };

@@ -94,7 +94,7 @@ pub record Framed (e : Extents) : Type 0 where
 last : (n : ℕ) → 2 ≤ n → n ≡ suc (n - 1)
 last n h = omega arith
 
-framed : (ring : Ring) → Bounded ring → Framed (extentsOf ring)
+pub framed : (ring : Ring) → Bounded ring → Framed (extentsOf ring)
 unfolding extentsOf
 framed ring b =
     let n = vertices ring in

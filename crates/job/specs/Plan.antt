@@ -7,10 +7,10 @@ use lib.Dec.{eqb}
 use lib.Ieee.{Float}
 use Rattle.laws.specs.Any.{all}
 use Rattle.laws.specs.Lists.{written}
-use Rattle.float.specs.Ops.{_≥ᶠ_, 0ᶠ, 2ᶠ, literal}
+use Rattle.float.specs.Ops.{_≥ᶠ_, 0ᶠ, literal}
 use Rattle.glyphs.specs.Rect.{rectangles}
 use Rattle.glyphs.specs.Spots.{flat}
-use Rattle.relax.specs.declared.Spreading.{Spreading}
+use Rattle.relax.specs.Scatter.{source}
 use Rattle.discs.specs.declared.options.GlyphOptions.{GlyphOptions}
 use Rattle.discs.specs.declared.options.Radius.{Radius}
 use Rattle.discs.specs.declared.options.Radius.the-variants.{Auto, Stated}
@@ -64,18 +64,6 @@ numberOf s first second sheet =
     orElse ceilingFault (jobOf s)
 
 -- ---- what is given
-
--- the numbers of relax.rs: SWEEPS, INFLUENCE, BOUNDARY_INFLUENCE, BOUNDARY_WEIGHT, MAX_STEP, BACKTRACKS
-abbrev pub source : Spreading
-source =
-    record {
-      sweeps = 8;
-      influence = literal 0x3ff8_0000_0000_0000;
-      «boundary_influence» = 2ᶠ;
-      «boundary_weight» = literal 0x3fe8_0000_0000_0000;
-      «max_step» = literal 0x3fd6_6666_6666_6666;
-      backtracks = 2;
-    }
 
 unfoldable pub placementsOf : Job → Placements
 placementsOf job = placeGlyphs room source (job .options) (rectangles (job .obstacles)) (job .zones)

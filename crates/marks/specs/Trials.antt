@@ -24,7 +24,8 @@ use Rattle.discs.specs.Region.{Zone}
 use Rattle.discs.specs.Radius.{halve, autoRadius}
 use Rattle.discs.specs.PlaceGlyphs.{Placements, workOf, sizeUnder, sizeFor, packAt, sizing, placeGlyphs}
 use Rattle.job.specs.Job.{Job}
-use Rattle.job.specs.Plan.{room, source, placementsOf}
+use Rattle.relax.specs.Scatter.{source}
+use Rattle.job.specs.Plan.{room, placementsOf}
 
 -- ---- one search
 module _ (fits : Float → Bool) (r-hi : Float) where

@@ -24,7 +24,7 @@ use Rattle.regions.specs.Ring.{Piece, outer, sum}
 use Rattle.deepest.specs.declared.search.Deepest.{Deepest}
 use Rattle.deepest.specs.declared.search.Deepest.the-variants.{Found, Nothing, Full}
 use Rattle.relax.specs.Kept.{length-relaxed}
-use Rattle.relax.specs.Scatter.{relaxScatter}
+use Rattle.relax.specs.Scatter.{source, relaxScatter}
 use Rattle.relax.specs.declared.Spreading.{Spreading}
 use Rattle.lattice.specs.Context.{inset, spacing}
 use Rattle.lattice.specs.Escape.{point}
@@ -49,7 +49,6 @@ use Rattle.claims.specs.Counts.{taken-count, scattered-count, thrown-count}
 use Rattle.claims.specs.HandOut.{assigned-sum}
 use Rattle.claims.specs.HandOut as HandOut
 use Rattle.claims.specs.Portions.{zone-sum}
-use Rattle.job.specs.Plan.{source}
 use Rattle.plan.specs.Walk.{never}
 use Rattle.plan.specs.Rows.{past-piece}
 use Rattle.plan.specs.Placing.{placeFor, Fair}

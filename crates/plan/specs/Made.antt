@@ -21,7 +21,8 @@ use Rattle.discs.specs.PlaceGlyphs.{leftIn, workOf, sizeFor, sizing}
 use Rattle.discs.specs.Searches.{isSearched, searched, searchesIn, hadRoom}
 use Rattle.discs.specs.Floor.{Handed, handedWork, handedRHi, handedFeasible}
 use Rattle.discs.specs.FloorLaws.{OwnPoints, OwnPacking, zonesOf, ceiling-own, size-own, stated-any}
-use Rattle.job.specs.Plan.{room, source, ceilingOf}
+use Rattle.relax.specs.Scatter.{source}
+use Rattle.job.specs.Plan.{room, ceilingOf}
 use Rattle.plan.specs.Own.{length-quotas, foundOf, ownOf}
 use Rattle.plan.specs.Read.{left-in-found}
 use Rattle.plan.specs.Sound.{both-true, points-back}

@@ -20,7 +20,8 @@ use Rattle.discs.specs.PlaceGlyphs.{Placed, leftIn, workOf, pack}
 use Rattle.discs.specs.Searches.{hadRoom}
 use Rattle.discs.specs.Floor.{rowOf, pastRow}
 use Rattle.discs.specs.FloorLaws.{OwnPacking, pack-own}
-use Rattle.job.specs.Plan.{source, placementOf}
+use Rattle.relax.specs.Scatter.{source}
+use Rattle.job.specs.Plan.{placementOf}
 use Rattle.plan.specs.Rows.{flatRows}
 use Rattle.plan.specs.Left.{Left, own-left-in, left-next}
 use Rattle.plan.specs.Placing.{placeFor, placementFor, placedAt}

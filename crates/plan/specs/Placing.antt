@@ -19,7 +19,7 @@ use Rattle.discs.specs.Region.{placedIn}
 use Rattle.discs.specs.Radius.{contextAt}
 use Rattle.discs.specs.PlaceGlyphs.{pack}
 use Rattle.discs.specs.Floor.{Handed, handedAt, packHanded, rowIsLeftIn}
-use Rattle.job.specs.Plan.{source}
+use Rattle.relax.specs.Scatter.{source}
 
 -- the spots of each piece of a zone; none without a size
 unfoldable pub placeFor : Sizing → GlyphOptions → List Rectangle → Handed → List (List Point)

@@ -18,7 +18,7 @@ use Rattle.discs.specs.declared.radius.Sizing.the-variants.{Unplaced, At}
 use Rattle.discs.specs.Radius.{boundaryGapOf}
 use Rattle.discs.specs.PlaceGlyphs.{sizeFor}
 use Rattle.discs.specs.Floor.{Handed, handedRHi, handedFeasible}
-use Rattle.job.specs.Plan.{source}
+use Rattle.relax.specs.Scatter.{source}
 use Rattle.plan.specs.declared.answer.Answer.{Answer}
 
 unfoldable pub ceilingFor : GlyphOptions → List Handed → Radius → Chosen

@@ -39,7 +39,8 @@ use Rattle.discs.specs.Searches.{hadRoom}
 use Rattle.discs.specs.Floor.{Handed, handedWork, start, workIn}
 use Rattle.job.specs.Job.{Job}
 use Rattle.job.specs.Known.{Shares, RadiusKnown}
-use Rattle.job.specs.Plan.{room, source, lowFault, ceilingFault, placementsOf, placementOf, sheetFor}
+use Rattle.relax.specs.Scatter.{source}
+use Rattle.job.specs.Plan.{room, lowFault, ceilingFault, placementsOf, placementOf, sheetFor}
 use Rattle.plan.specs.Walk.{never}
 use Rattle.plan.specs.Rows.{flatRows}
 use Rattle.plan.specs.Left.{Left}

@@ -1,4 +1,4 @@
-// The inner layers for tests/differential alone, as its probes.h declares them: no entry of the product.
+// The inner layers for tests/differential and bench alone, as probes.h declares them: no entry of the product.
 ghost use mathlib.Core.Path.{_≡_};
 ghost use Prim.Native.Nat.{_*_, _/_, _<_, _≤_};
 ghost use lib.ListN.{length};

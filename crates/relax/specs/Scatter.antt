@@ -6,7 +6,7 @@ use lib.Dec.{eqb}
 use lib.ListN.{length, getD, set}
 use lib.Ieee.{Float, nan}
 use Rattle.laws.specs.Lists.{upTo}
-use Rattle.float.specs.Ops.{_+ᶠ_, _-ᶠ_, _*ᶠ_, _/ᶠ_, _≤ᶠ_, 0ᶠ, 1ᶠ, ½ᶠ, literal}
+use Rattle.float.specs.Ops.{_+ᶠ_, _-ᶠ_, _*ᶠ_, _/ᶠ_, _≤ᶠ_, 0ᶠ, 1ᶠ, 2ᶠ, ½ᶠ, literal}
 use Rattle.float.specs.Order.{hypot, min}
 use Rattle.float.specs.Whole.{as-f64}
 use Rattle.glyphs.specs.declared.rect.Point.{Point}
@@ -21,12 +21,12 @@ use Rattle.relax.specs.declared.field.Acceptance.{Acceptance}
 use Rattle.relax.specs.declared.field.Acceptance.the-variants.{Clear, Refused}
 
 -- SWEEPS: 8, INFLUENCE: 1.5, BOUNDARY_INFLUENCE: 2.0, BOUNDARY_WEIGHT: 0.75, MAX_STEP: 0.35 and BACKTRACKS: 2
-unfoldable pub source : Spreading
+abbrev pub source : Spreading
 source =
     record {
       sweeps = 8;
       influence = literal 0x3ff8_0000_0000_0000;
-      «boundary_influence» = literal 0x4000_0000_0000_0000;
+      «boundary_influence» = 2ᶠ;
       «boundary_weight» = literal 0x3fe8_0000_0000_0000;
       «max_step» = literal 0x3fd6_6666_6666_6666;
       backtracks = 2;

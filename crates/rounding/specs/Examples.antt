@@ -93,8 +93,8 @@ coordinates = (
 -- the greatest radius with the greatest gap, and the least radius with none
 lengths : Length (2ᶠ *ᶠ thousand *ᶠ (1ᶠ +ᶠ sixteen)) × Length (2ᶠ *ᶠ smallest *ᶠ (1ᶠ +ᶠ 0ᶠ))
 lengths = (
-  spacing-length thousand sixteen thousand-sized (unfold ofBits sgn in omega arith) sixteen-sized (unfold ofBits sgn in omega arith) (unfold ofBits mag U in lit≤ tt),
-  spacing-length smallest 0ᶠ smallest-sized (unfold ofBits sgn in omega arith) (wider (lit≤ tt) zero-sized) (rw zero-val (omega arith)) (unfold ofBits mag U in lit≤ tt),
+  spacing-length 1024 (lit≤ tt) thousand sixteen thousand-sized (unfold ofBits sgn in omega arith) sixteen-sized (unfold ofBits sgn in omega arith) (unfold ofBits mag U in lit≤ tt),
+  spacing-length 1024 (lit≤ tt) smallest 0ᶠ smallest-sized (unfold ofBits sgn in omega arith) (wider (lit≤ tt) zero-sized) (rw zero-val (omega arith)) (unfold ofBits mag U in lit≤ tt),
 )
 
 -- ---- spacing from squares: (-65536, 65536) and (65536, 65536), the spacing 65536

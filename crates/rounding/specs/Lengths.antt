@@ -1,5 +1,5 @@
--- The numbers of a job: a coordinate counted in 1 / 1,024 or 1 / 65,536 is 1,024 at most; the spacing 2 * r * (1 + gap) is from 2 ^ -20 to 34,816, as `Spacing`, `Lattice` and `Cells` ask, and the inset r * (1 + gap) is 17,408 at most.
--- Rests on `Bounds`. A radius above 0 is 2 ^ -21 to 1,024, and a gap 0 to 16.
+-- The numbers of a job: a coordinate counted in 1 / 1,024 or 1 / 65,536 is 1,024 at most; the spacing 2 * r * (1 + gap) is from 2 ^ -20 to 36,864, as `Spacing`, `Lattice` and `Cells` ask, and the inset r * (1 + gap) is 17 times a bound of r.
+-- Rests on `Bounds`. A radius above 0 is 2 ^ -21 to 1,084, and a gap 0 to 16.
 use mathlib.Core.Path.{_≡_, refl}
 use mathlib.Core.Bool.{false}
 use Prim.Native.Nat.{ℕ, _*_, _≤_, _<_}
@@ -31,12 +31,12 @@ unfolding ofBits sgn mag U
 one-val = refl
 
 -- 1 + gap is 1 to 17
-record Factor (f : Float) : Type 0 where
-  sized : Sized f 17
-  nonneg : Nonneg f
-  least : U ≤ mag f
+pub record Factor (f : Float) : Type 0 where
+  pub sized : Sized f 17
+  pub nonneg : Nonneg f
+  pub least : U ≤ mag f
 
-factor : (gap : Float) → Sized gap 16 → Nonneg gap → Factor (1ᶠ +ᶠ gap)
+pub factor : (gap : Float) → Sized gap 16 → Nonneg gap → Factor (1ᶠ +ᶠ gap)
 factor gap g o =
     let f = 1ᶠ +ᶠ gap in
     let s = add-sized one-sized g (lit< tt) in
@@ -45,14 +45,18 @@ factor gap g o =
     let n : Nonneg f = omega (arith, l) in
     record { sized = s; nonneg = n; least = omega (arith, l, plain (sgn f) (mag f) n) }
 
-module _ (r gap : Float) (R : Sized r 1024) (o : Nonneg r) (G : Sized gap 16) (o' : Nonneg gap) where
+-- r is k at most
+module _ (k : ℕ) (few : k ≤ 1084) (r gap : Float) (R : Sized r k) (o : Nonneg r) (G : Sized gap 16) (o' : Nonneg gap) where
   -- r * (1.0 + boundary_gap)
-  pub inset-sized : Sized (r *ᶠ (1ᶠ +ᶠ gap)) 17408
-  inset-sized = mul-sized R (factor gap G o' .sized) (lit< tt)
+  pub inset-sized : Sized (r *ᶠ (1ᶠ +ᶠ gap)) (k * 17)
+  inset-sized = mul-sized R (factor gap G o' .sized) (omega (arith, few))
 
   -- 2.0 * r * (1.0 + gap)
-  pub spacing-sized : Sized (2ᶠ *ᶠ r *ᶠ (1ᶠ +ᶠ gap)) 34816
-  spacing-sized = mul-sized (mul-sized two-sized R (lit< tt)) (factor gap G o' .sized) (lit< tt)
+  double : Sized (2ᶠ *ᶠ r) (2 * k)
+  double = mul-sized two-sized R (omega (arith, few))
+
+  pub spacing-sized : Sized (2ᶠ *ᶠ r *ᶠ (1ᶠ +ᶠ gap)) 36864
+  spacing-sized = wider (omega (arith, few)) (mul-sized double (factor gap G o' .sized) (omega (arith, few)))
 
   pub spacing-length : U ≤ mag r * 2097152 → Length (2ᶠ *ᶠ r *ᶠ (1ᶠ +ᶠ gap))
   spacing-length l =
@@ -60,9 +64,8 @@ module _ (r gap : Float) (R : Sized r 1024) (o : Nonneg r) (G : Sized gap 16) (o
       let d = 2ᶠ *ᶠ r in
       let s = d *ᶠ f in
       let F = factor gap G o' in
-      let D = mul-sized two-sized R (lit< tt) in
-      let p = mul-of-finite 2ᶠ r (two-sized .num) (R .num) (D .num .fine) in
-      let q = mul-of-finite d f (D .num) (F .sized .num) (spacing-sized .num .fine) in
+      let p = mul-of-finite 2ᶠ r (two-sized .num) (R .num) (double .num .fine) in
+      let q = mul-of-finite d f (double .num) (F .sized .num) (spacing-sized .num .fine) in
       let g = digits-twice (digits r (R .num)) in
       let a : 2 * mag r ≤ mag d = p .least (2 * mag r) g (rw two-mag (omega arith)) in
       let b : 2 * mag r ≤ mag s = q .least (2 * mag r) g (le-trans (mul-le-mul-right U a) (mul-le-mul-left (mag d) (F .least))) in

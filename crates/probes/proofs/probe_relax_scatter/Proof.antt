@@ -3,7 +3,6 @@
 use native.Mathlib.Omega.{arith}
 use lib.ListN.{length-take, length-replicate}
 use borrow.Author.Needs.{needs}
-use Rattle.relax.specs.Scatter.{source}
 use Rattle.probes.proofs.probe_relax_scatter.Statement.{statement}
 use Rattle.probes.proofs.probe_relax_scatter.Tie as tie
 
@@ -11,7 +10,6 @@ relax-scatter-requires : tie.Need-relax-scatter-requires
 relax-scatter-requires c κs = simp (length-take, length-replicate) (omega arith)
 
 returns : tie.Need-returns
-unfolding source
 returns c = c .before .before .before .before .relax-scatter .ensures .0
 
 pub probe-relax-scatter-spec : {M : Type 1} → statement M
