@@ -8,6 +8,14 @@
 
 enum { STACK = 4 << 20, PAINT = 0xa5 };
 
+// For valgrind, to which a stack that has been left is no memory.
+#if __has_include(<valgrind/memcheck.h>)
+#include <valgrind/memcheck.h>
+#define MAY_BE_READ(at, length) VALGRIND_MAKE_MEM_DEFINED(at, length)
+#else
+#define MAY_BE_READ(at, length)
+#endif
+
 static void *begin(void *work) { return ((int (*)(void))work)() ? work : NULL; }
 
 int on_painted_stack(int (*work)(void), size_t *used) {
@@ -26,6 +34,7 @@ int on_painted_stack(int (*work)(void), size_t *used) {
         perror("no thread");
         exit(2);
     }
+    MAY_BE_READ(stack, STACK);
     size_t untouched = 0;
     while (untouched < STACK && stack[untouched] == PAINT) untouched++;
     *used = STACK - untouched;
