@@ -13,6 +13,7 @@ use lib.Dec.{eqb}
 use lib.IntN.{ℤ, pos, negsuc}
 use lib.ListN.{length}
 use lib.Ieee.{Float, nan, inf, fin}
+use Rattle.laws.specs.Truth.{yes, same-answer}
 use Rattle.deepest.specs.Order.{leaves, leaves-chain, leaves-asym, leaves-tie}
 use Rattle.deepest.specs.Cells.{cellAt}
 use Rattle.deepest.specs.Heap.{root-first, same-or-not, itself}
@@ -26,12 +27,6 @@ both : (a b : Bool) → a && b ≡ true → (a ≡ true) × (b ≡ true)
 both true true e = (refl, refl)
 both true false e = absurd (true≢false (sym e))
 both false b e = absurd (true≢false (sym e))
-
-sameBool : (a b : Bool) → Bool·beq a b ≡ true → a ≡ b
-sameBool true true e = refl
-sameBool true false e = absurd (true≢false (sym e))
-sameBool false true e = absurd (true≢false (sym e))
-sameBool false false e = refl
 
 selfBool : (a : Bool) → Bool·beq a a ≡ true
 selfBool true = refl
@@ -73,14 +68,14 @@ float-same nan nan e = refl
 float-same nan (inf t) e = absurd (true≢false (sym e))
 float-same nan (fin t n d) e = absurd (true≢false (sym e))
 float-same (inf s) nan e = absurd (true≢false (sym e))
-float-same (inf s) (inf t) e = ap inf (sameBool s t e)
+float-same (inf s) (inf t) e = ap inf (same-answer s t (yes e))
 float-same (inf s) (fin t n d) e = absurd (true≢false (sym e))
 float-same (fin s m a) nan e = absurd (true≢false (sym e))
 float-same (fin s m a) (inf t) e = absurd (true≢false (sym e))
 float-same (fin s m a) (fin t n d) e =
     let p = both (Bool·beq s t) (eqb m n && intEq a d) e in
     let q = both (eqb m n) (intEq a d) (p .1) in
-    let f = sameBool s t (p .0) in
+    let f = same-answer s t (yes (p .0)) in
     let g = eqb-true m n (q .0) in
     let h = int-same a d (q .1) in
     cc

@@ -14,7 +14,7 @@ use lib.Dec.{T, ltb}
 use lib.ListN.{length, getD, take, set}
 use lib.Seq.{take-all, take-suc-set, append-snoc}
 use lib.Ieee.{Float, nan, inf, fin, lt, isNan}
-use Rattle.laws.specs.Truth.{yes, no, or-split}
+use Rattle.laws.specs.Truth.{yes, no, refuted, or-split}
 use Rattle.float.specs.Ops.{_+ᶠ_, _*ᶠ_, _/ᶠ_, _<ᶠ_, literal, 2ᶠ}
 use Rattle.float.specs.Laws.Nan.{Number, lt-number}
 use Rattle.float.specs.Laws.Compare.{le-trans, lt-le, lt-not-le, not-lt-le}
@@ -50,10 +50,6 @@ unfoldable pub leaves : List Float → Cell → Cell → Bool
 leaves halves a b = sooner (boundOf halves a) (a .entry) (boundOf halves b) (b .entry)
 
 -- ---- laws of `lowerThan`
-
-refuted : (b : Bool) → (T b → ⊥) → b ≡ false
-refuted true h = absurd (h tt)
-refuted false h = refl
 
 nan-low : (x y : Float) → T (isNan x) → T (not (isNan y)) → T (lowerThan x y)
 unfolding lowerThan isNan lt

@@ -32,8 +32,8 @@ fn digit_root(m: u64) -> u64
 // A guess at √x from the bit pattern of x: 1 / √x from the pattern, as in the fast inverse square root of Quake III
 // Arena, and two steps of Newton's method, with the numbers that leave the least error, give d, to 21 digits. Then s
 // is x * d to 22 digits, so that `rest`, what x has above s * s, is exact, and rest / (s + √x), worked out by d and
-// `rest`, is what s lacks. Nothing is proved of the guess: `scaled_root` tests it. For a normal x it is the root but
-// for some 4 in 10,000.
+// `rest`, is what s lacks. Nothing is proved of the guess: `scaled_root` tests it. For a normal x below 2^1023 it is
+// the root but for some 3 in 10,000.
 fn root_guess(pattern: u64) -> f64
     requires { ⌜ pattern < 0x7ff0_0000_0000_0000 ⌝ }
 {

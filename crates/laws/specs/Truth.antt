@@ -2,7 +2,7 @@
 -- Assumes nothing.
 use mathlib.Core.Path.{_≡_, refl, sym, subst}
 use mathlib.Core.Logic.{_⊎_, inl, inr}
-use mathlib.Core.Bool.{Bool, true, false, not, _&&_, _||_}
+use mathlib.Core.Bool.{Bool, true, false, not, _&&_, _||_, Bool·beq}
 use Prim.Native.Nat.{_≤_}
 use native.Mathlib.Omega.{arith}
 use lib.Dec.{T}
@@ -13,6 +13,16 @@ yes h = subst T (sym h) tt
 
 pub no : {b : Bool} → b ≡ false → T (not b)
 no h = subst (λ (a : Bool). T (not a)) (sym h) tt
+
+pub refuted : (b : Bool) → (T b → ⊥) → b ≡ false
+refuted true h = absurd (h tt)
+refuted false h = refl
+
+pub same-answer : (a b : Bool) → T (Bool·beq a b) → a ≡ b
+same-answer true true t = refl
+same-answer true false t = absurd t
+same-answer false true t = absurd t
+same-answer false false t = refl
 
 pub and-true : (a : Bool) → a && true ≡ a
 and-true true = refl

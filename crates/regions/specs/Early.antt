@@ -11,7 +11,7 @@ use native.Mathlib.Nat.{eq-or-lt-of-le, le-of-suc-le-suc}
 use lib.Dec.{T, ltb}
 use lib.Ieee.{Float, nan, inf, fin, binary64, neg, lt, le, isNan}
 use lib.Ieee.Bits.{is-true}
-use Rattle.laws.specs.Truth.{yes}
+use Rattle.laws.specs.Truth.{yes, refuted}
 use Rattle.float.specs.Ops.{_*ᶠ_, _<ᶠ_, _≤ᶠ_, literal, 0ᶠ, ∞}
 use Rattle.float.specs.Order.{sqrt}
 use Rattle.float.specs.Root.{rootOf}
@@ -25,11 +25,6 @@ use Rattle.regions.specs.Clearance.{squareAt, closer, within, minDistToR
 use Rattle.regions.specs.Squares.{leastAfter, leastOfRing, leastOfRings}
 use Rattle.regions.specs.Least.{Good, after-good, ring-good, rings-good, ∞-good, least-root}
 use Rattle.regions.specs.Margin.{lowSquare, highSquare, untilFrom, untilOfRing, untilOfRings, until-stop}
-
--- not true, so false
-pub refuted : (b : Bool) → (T b → ⊥) → b ≡ false
-refuted true h = absurd (h tt)
-refuted false h = refl
 
 -- ---- the least never rises
 

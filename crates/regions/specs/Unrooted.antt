@@ -6,7 +6,7 @@ use Prim.Native.Nat.{zero, suc}
 use lib.Dec.{T, T-not}
 use lib.Ieee.{Float, nan, inf, fin, binary64, neg, lt, le}
 use lib.Ieee.Bits.{is-true}
-use Rattle.laws.specs.Truth.{no}
+use Rattle.laws.specs.Truth.{no, refuted}
 use Rattle.float.specs.Ops.{_<ᶠ_, 0ᶠ, ∞}
 use Rattle.float.specs.Order.{sqrt}
 use Rattle.float.specs.Root.{rootOf}
@@ -19,7 +19,7 @@ use Rattle.regions.specs.Clearance.{within, minDistToRings, signedCleara
 use Rattle.regions.specs.Squares.{leastOfRings}
 use Rattle.regions.specs.Least.{least-root, rings-good, ∞-good}
 use Rattle.regions.specs.Margin.{lowSquare, highSquare}
-use Rattle.regions.specs.Early.{refuted, root-number, low-square, high-square, dist-least, at-least-zero}
+use Rattle.regions.specs.Early.{root-number, low-square, high-square, dist-least, at-least-zero}
 
 -- the square of the distance inside, the clearance itself outside
 unfoldable pub unrooted : Float → Float → Piece → Float
