@@ -22,8 +22,8 @@ use Rattle.regions.specs.Ring.{Piece, outer}
 use Rattle.regions.specs.Inside.{pointInPolygon}
 use Rattle.regions.specs.Clearance.{squareAt, closer, within, minDistToRings, signedClearance}
 use Rattle.regions.specs.Squares.{leastAfter, leastOfRing, leastOfRings}
-use Rattle.regions.specs.Least.{Good, least-root, after-good, ring-good, rings-good, ∞-good}
-use Rattle.regions.specs.Early.{after-falls, at-least-zero, ring-falls, inside-is}
+use Rattle.regions.specs.Least.{least-root, after-good, ring-good, rings-good, ∞-good, after-falls, at-least-zero, rings-fall}
+use Rattle.regions.specs.Facts.{inside-is}
 use Rattle.regions.specs.Sizes.{sized-number}
 use Rattle.format.specs.Known.{RingKnown, PieceKnown}
 use Rattle.claims.specs.Straddle.{inside-between}
@@ -38,12 +38,6 @@ closer-under s b p q = go (lt s b) refl
     go : (t : Bool) → lt s b ≡ t → T (le (cond t s b) s)
     go true e = le-self s p
     go false e = not-lt-le b s q p (no e)
-
-rings-fall : (px py b : Float) (rings : List Ring) → Good b → T (le (foldl (leastOfRing px py) b rings) b)
-rings-fall px py b [] g = le-self b (g .number)
-rings-fall px py b (ring ∷ rings) g =
-    le-trans (foldl (leastOfRing px py) (leastOfRing px py b ring) rings) (leastOfRing px py b ring) b
-    (rings-fall px py (leastOfRing px py b ring) rings (ring-good px py b ring g)) (ring-falls px py b ring g)
 
 module _ (x y : Float) (ring : Ring) (n : ℕ) where
   at-turn : (i : ℕ) → Number (squareAt x y ring n i) → T (le (leastAfter x y ∞ ring n (suc i)) (squareAt x y ring n i))

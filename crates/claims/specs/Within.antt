@@ -17,7 +17,7 @@ use Rattle.glyphs.specs.Points.{Ring, vertices, xAt, yAt}
 use Rattle.regions.specs.Ring.{Piece, prev, outer, holes}
 use Rattle.regions.specs.Inside.{pointInPolygon}
 use Rattle.regions.specs.Clearance.{within, inAny, signedClearance}
-use Rattle.regions.specs.Early.{outside}
+use Rattle.regions.specs.Facts.{outside}
 use Rattle.regions.specs.Sizes.{sized-number}
 use Rattle.format.specs.Exact.{Coordinate}
 use Rattle.format.specs.Known.{All, RingKnown, PieceKnown}

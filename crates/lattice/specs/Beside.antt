@@ -28,8 +28,7 @@ use Rattle.rounding.specs.Errors.{add-of-finite}
 use Rattle.rounding.specs.Signs.{Nonneg, add-case}
 use Rattle.glyphs.specs.declared.rect.Rectangle.{Rectangle}
 use Rattle.glyphs.specs.Rect.{rectangles, distToRect, clearOfObstacles, filter}
-use Rattle.regions.specs.Margin.{highSquare}
-use Rattle.regions.specs.Early.{high-square}
+use Rattle.regions.specs.Margin.{highSquare, high-square}
 use Rattle.regions.specs.Pillars.{beyond, rectSquare, rect-root}
 use Rattle.lattice.specs.declared.beside.Beside.{Beside}
 

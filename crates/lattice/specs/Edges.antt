@@ -25,8 +25,7 @@ use Rattle.glyphs.specs.Points.{Ring, vertices, xAt, yAt}
 use Rattle.glyphs.specs.Rect.{rectAt, rectsFrom, rects-step, rects-end}
 use Rattle.regions.specs.Ring.{Piece, next}
 use Rattle.regions.specs.Clearance.{edgeSquare, distAt, closer, bestAfter, bestOfRing, minDistToRings}
-use Rattle.regions.specs.Margin.{lowSquare, highSquare}
-use Rattle.regions.specs.Early.{high-square}
+use Rattle.regions.specs.Margin.{lowSquare, highSquare, high-square}
 use Rattle.lattice.specs.Near.{putRect, rects-put}
 use Rattle.lattice.specs.Far.{Sure, Beyond, far-edge}
 

@@ -28,8 +28,7 @@ use Rattle.rounding.specs.Monotone.{add-mono, sub-mono, mul-mono}
 use Rattle.rounding.specs.Bounds.{Sized, wider, neg-sized, add-sized, sub-sized, mul-sized, ranged}
 use Rattle.rounding.specs.Signs.{Nonneg, zero-num, zero-val, zero-sized, square-plus, add-case}
 use Rattle.regions.specs.Clearance.{along, edgeSquare}
-use Rattle.regions.specs.Margin.{highSquare, none}
-use Rattle.regions.specs.Early.{high-square}
+use Rattle.regions.specs.Margin.{highSquare, none, high-square}
 
 -- what makes sure that whatever is `reach` off the coordinate v of a place keeps the clearance c
 pub record Reaches (c v reach : Float) : Type 0 where

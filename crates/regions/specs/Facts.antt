@@ -1,28 +1,21 @@
 -- What later layers ask of the clearance and the area, for every piece and place, NaN and infinity among them.
 -- Rests on float's laws of roots and comparisons.
-use mathlib.Core.Path.{_≡_, refl}
-use mathlib.Core.Bool.{Bool, true, false, cond}
+use mathlib.Core.Path.{_≡_, refl, sym, _∙_}
+use mathlib.Core.Bool.{Bool, true, false, cond, true≢false}
 use lib.Dec.{T}
-use lib.Ieee.{Float, nan, inf, fin, neg, le, isNan, ofBits}
-use Rattle.laws.specs.Truth.{no}
+use lib.Ieee.{Float, neg, le, isNan, ofBits}
+use Rattle.laws.specs.Truth.{no, refuted}
 use Rattle.float.specs.Ops.{_<ᶠ_, _≤ᶠ_, 0ᶠ, ∞}
 use Rattle.float.specs.Order.{max}
 use Rattle.float.specs.Laws.Nan.{Number}
 use Rattle.float.specs.Laws.Zero.{origin, origin-is}
-use Rattle.float.specs.Laws.Compare.{not-lt-le, lt-not-le, le-trans, neg-le}
+use Rattle.float.specs.Laws.Compare.{not-lt-le, lt-not-le, le-trans, lt-le-trans, neg-le, neg-number}
 use Rattle.float.specs.Laws.Minimum.{square-root-number}
 use Rattle.regions.specs.Ring.{Piece}
 use Rattle.regions.specs.Area.{pieceArea}
 use Rattle.regions.specs.Clearance.{within, minDistToRings, signedClearance}
 use Rattle.regions.specs.Squares.{leastOfRings}
-use Rattle.regions.specs.Least.{least-root, rings-good, ∞-good}
-use Rattle.regions.specs.Early.{dist-least, flat}
-
-neg-number : (x : Float) → Number x → Number (neg x)
-unfolding neg isNan
-neg-number nan h = h
-neg-number (inf s) h = tt
-neg-number (fin s m e) h = tt
+use Rattle.regions.specs.Least.{least-root, rings-good, ∞-good, dist-least}
 
 dist-number : (px py : Float) (piece : Piece) → Number (minDistToRings px py piece)
 unfolding leastOfRings
@@ -39,6 +32,10 @@ clearance-number px py piece = go (within px py piece)
     go true = dist-number px py piece
     go false = neg-number (minDistToRings px py piece) (dist-number px py piece)
 
+flat : T (le (neg origin) origin)
+unfolding le neg
+flat = tt
+
 -- a clearance above 0 is that of a place inside, and is its distance
 pub above-inside : (px py : Float) (piece : Piece) → T (0ᶠ <ᶠ signedClearance px py piece) → within px py piece ≡ true
 unfolding signedClearance
@@ -50,6 +47,16 @@ above-inside px py piece h = go (within px py piece) refl h
         absurd
         (lt-not-le origin (neg (minDistToRings px py piece)) (rw origin-is at k)
         (le-trans (neg (minDistToRings px py piece)) (neg origin) origin (neg-le origin (minDistToRings px py piece) (dist-least px py piece)) flat))
+
+pub inside-is : (px py : Float) (piece : Piece) → within px py piece ≡ true → signedClearance px py piece ≡ minDistToRings px py piece
+unfolding signedClearance
+inside-is px py piece e = rw e
+
+-- so none outside is at least a c above 0
+pub outside : (px py c : Float) (piece : Piece) → T (0ᶠ <ᶠ c) → within px py piece ≡ false → c ≤ᶠ signedClearance px py piece ≡ false
+outside px py c piece h e =
+    refuted (c ≤ᶠ signedClearance px py piece)
+    (λ (k : T (c ≤ᶠ signedClearance px py piece)). true≢false (sym (above-inside px py piece (lt-le-trans 0ᶠ c (signedClearance px py piece) h k)) ∙ e))
 
 zero-self : T (0ᶠ ≤ᶠ 0ᶠ)
 unfolding le ofBits

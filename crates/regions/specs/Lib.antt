@@ -5,7 +5,6 @@ pub mod Clearance
 pub mod Squares
 pub mod Least
 pub mod Margin
-pub mod Early
 pub mod Unrooted
 pub mod Pillars
 pub mod Facts

@@ -27,9 +27,8 @@ use Rattle.glyphs.specs.Points.{Ring, vertices, xAt, yAt}
 use Rattle.regions.specs.Ring.{next}
 use Rattle.regions.specs.Clearance.{along, edgeSquare, squareAt, closer, within, minDistToRings, signedClearance}
 use Rattle.regions.specs.Squares.{leastAfter, leastOfRing, leastOfRings}
-use Rattle.regions.specs.Least.{Good, least-root, ring-good, rings-good, ∞-good}
+use Rattle.regions.specs.Least.{Good, least-root, ring-good, rings-good, ∞-good, after-falls, at-least-zero, ring-falls}
 use Rattle.regions.specs.Facts.{zero-number}
-use Rattle.regions.specs.Early.{after-falls, at-least-zero, ring-falls}
 
 -- ---- a quotient by a number above 0 is a number
 round-number : (s : Bool) (a c : ℕ) → Number (round binary64 s a c)

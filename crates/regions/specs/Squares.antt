@@ -1,6 +1,6 @@
 -- The least of the squares in place of the least of the distances: definitions for the code, and the law that its root is the least distance.
 -- Rests on the root's being monotone.
-use Prim.Native.Nat.{ℕ, zero, suc}
+use Prim.Native.Nat.{ℕ, zero, suc, _+_}
 use mathlib.Core.Path.{_≡_, refl}
 use mathlib.Core.Bool.{cond}
 use mathlib.Core.List.{List, foldl}
@@ -14,6 +14,11 @@ use Rattle.regions.specs.Clearance.{squareAt, closer}
 unfoldable pub leastAfter : Float → Float → Float → Ring → ℕ → ℕ → Float
 leastAfter px py best ring n zero = best
 leastAfter px py best ring n (suc i) = closer (squareAt px py ring n i) (leastAfter px py best ring n i)
+
+-- the least of the k edges from the edge h on
+unfoldable pub leastFrom : Float → Float → Ring → ℕ → ℕ → ℕ → Float
+leastFrom px py ring n h zero = ∞
+leastFrom px py ring n h (suc k) = closer (squareAt px py ring n (h + k)) (leastFrom px py ring n h k)
 
 unfoldable pub leastOfRing : Float → Float → Float → Ring → Float
 leastOfRing px py best ring = cond (ltb (vertices ring) 2) best (leastAfter px py best ring (vertices ring) (vertices ring))

@@ -17,9 +17,8 @@ use Rattle.float.specs.Laws.Monotone.{rootOf-mono}
 use Rattle.regions.specs.Ring.{Piece}
 use Rattle.regions.specs.Clearance.{within, minDistToRings, signedClearance}
 use Rattle.regions.specs.Squares.{leastOfRings}
-use Rattle.regions.specs.Least.{least-root, rings-good, ∞-good}
-use Rattle.regions.specs.Margin.{lowSquare, highSquare}
-use Rattle.regions.specs.Early.{root-number, low-square, high-square, dist-least, at-least-zero}
+use Rattle.regions.specs.Least.{least-root, rings-good, ∞-good, dist-least, at-least-zero}
+use Rattle.regions.specs.Margin.{lowSquare, highSquare, root-number, low-square, high-square}
 
 -- the square of the distance inside, the clearance itself outside
 unfoldable pub unrooted : Float → Float → Piece → Float

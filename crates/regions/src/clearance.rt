@@ -1,24 +1,25 @@
 // regions.rs, `min_dist_to_rings` and `signed_clearance`. The least of the squares is kept and one root taken.
 ghost use mathlib.Core.Path.{_≡_};
-ghost use Prim.Native.Nat.{_*_, _<_, _≤_};
+ghost use Prim.Native.Nat.{_-_, _*_, _/_, _<_, _≤_};
 ghost use lib.ListN.{length};
 ghost use Rattle.regions.specs.Ring.{sum, pieceOf};
-ghost use Rattle.regions.specs.Clearance.{along, edgeSquare, closer, within, minDistToRings, signedClearance};
-ghost use Rattle.regions.specs.Squares.{leastOfRing, leastOfRings};
+ghost use Rattle.regions.specs.Clearance.{along, edgeSquare, squareAt, closer, within, minDistToRings, signedClearance};
+ghost use Rattle.regions.specs.Squares.{leastOfRing, leastOfRings, leastFrom};
 use crate::inside::point_in_polygon;
 use crate::ring::after;
 use crate::ring::ring_at;
 use glyphs::points::vx;
 use glyphs::points::vy;
 
-// Where the point nearest to a place lies on an edge: `dot` of the squared length `len2`, held to the edge.
+// Where the point nearest to a place lies on an edge: `dot` of the squared length `len2`, held to the edge. There is no
+// branch, so that several edges or places can be worked out side by side.
 fn along_edge(dot: f64, len2: f64) -> f64
     ensures { λ r. ⌜ r ≡ along dot len2 ⌝ }
 {
-    if len2 > 0.0 {
-        return float::clamp(dot / len2, 0.0, 1.0);
-    }
-    0.0
+    let t = dot / len2;
+    let from = if t < 0.0 { 0.0 } else { t };
+    let held = if 1.0 < from { 1.0 } else { from };
+    if len2 > 0.0 { held } else { 0.0 }
 }
 
 // The square of the distance from (px, py) to the edge from a to b.
@@ -49,30 +50,55 @@ pub fn closer_edge(px: f64, py: f64, best: f64, ax: f64, ay: f64, bx: f64, by: f
     lesser(edge_square(px, py, ax, ay, bx, by), best)
 }
 
-// The least of `start` and the squares of the distances to a ring's edges.
-fn ring_square(px: f64, py: f64, start: f64, ring: &[f64]) -> f64
+// The lesser of `best` and the square of the distance to edge `i`.
+fn closer_at(px: f64, py: f64, best: f64, ring: &[f64], i: usize) -> f64
+    requires { ⌜ i < length (now ring) / 2 ⌝ }
+    ensures { λ r. ⌜ r ≡ closer (squareAt px py (now (ring .entry)) (length (now (ring .entry)) / 2) i) best ⌝ }
+{
+    let k = after(ring.len() / 2, i);
+    closer_edge(
+        px,
+        py,
+        best,
+        vx(ring, i),
+        vy(ring, i),
+        vx(ring, k),
+        vy(ring, k),
+    )
+}
+
+// The least of the second half of a ring's edges, of which `best` is that of as many as the first half has: an odd
+// number of edges leaves the last one.
+fn with_last(px: f64, py: f64, best: f64, ring: &[f64], half: usize) -> f64
+    requires { ⌜ (half ≡ length (now ring) / 2 / 2) × (best ≡ leastFrom px py (now ring) (length (now ring) / 2) half half) ⌝ }
+    ensures { λ r. ⌜ r ≡ leastFrom px py (now (ring .entry)) (length (now (ring .entry)) / 2) half (length (now (ring .entry)) / 2 - half) ⌝ }
+{
+    let i = half + half;
+    if i < ring.len() / 2 {
+        return closer_at(px, py, best, ring, i);
+    }
+    best
+}
+
+// The least of `start` and the squares of the distances to a ring's edges. Those of the two halves are found side by
+// side.
+pub fn ring_square(px: f64, py: f64, start: f64, ring: &[f64]) -> f64
     ensures { λ r. ⌜ r ≡ leastOfRing px py start (now (ring .entry)) ⌝ }
 {
     let n = ring.len() / 2;
     if n < 2 {
         return start;
     }
+    let half = n / 2;
     let mut best = start;
+    let mut other = 1.0 / 0.0;
     let mut i = 0;
-    while i < n {
-        let k = after(n, i);
-        best = closer_edge(
-            px,
-            py,
-            best,
-            vx(ring, i),
-            vy(ring, i),
-            vx(ring, k),
-            vy(ring, k),
-        );
+    while i < half {
+        best = closer_at(px, py, best, ring, i);
+        other = closer_at(px, py, other, ring, half + i);
         i += 1;
     }
-    best
+    lesser(with_last(px, py, other, ring, half), best)
 }
 
 // The least square of all rings.

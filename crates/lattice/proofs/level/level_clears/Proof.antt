@@ -7,7 +7,7 @@ use lib.Ieee.{Float}
 use Rattle.laws.specs.Truth.{yes}
 use Rattle.float.specs.Ops.{_≤ᶠ_}
 use Rattle.regions.specs.Ring.{pieceOf}
-use Rattle.regions.specs.Early.{outside, inside-is}
+use Rattle.regions.specs.Facts.{outside, inside-is}
 use Rattle.lattice.specs.Level.{Levelled}
 use Rattle.lattice.proofs.level.level_clears.Statement.{statement}
 use Rattle.lattice.proofs.level.level_clears.Tie as tie

@@ -6,8 +6,7 @@ use lib.Dec.{T}
 use lib.Ieee.{Float, lt, le}
 use lib.Ieee.Bits.{is-true}
 use Rattle.laws.specs.Truth.{yes}
-use Rattle.regions.specs.Margin.{low-of-margin, high-of-margin}
-use Rattle.regions.specs.Early.{high-square, low-square-below}
+use Rattle.regions.specs.Margin.{low-of-margin, high-of-margin, high-square, low-square-below}
 use Rattle.regions.proofs.margin.root_at_least.Statement.{statement}
 use Rattle.regions.proofs.margin.root_at_least.Tie as tie
 
