@@ -18,6 +18,7 @@ def load(name):
     return module
 
 
+sys.path.insert(0, str(ROOT / "tools"))
 job_tool, draw_tool = load("job"), load("draw")
 
 

@@ -4,6 +4,7 @@ pub mod Heap
 pub mod Queue
 pub mod Sift
 pub mod Deepest
+pub mod Same
 pub mod Match
 pub mod Turns
 pub mod Search

@@ -8,10 +8,12 @@ use native.Mathlib.Omega.{arith}
 use native.Mathlib.Numerals.{add-one}
 use lib.ListN.{length, getD, take, drop, set, length-append, length-take, length-drop}
 use lib.Seq.{sets, set-comm, drop-cons}
-use lib.Dec.{leb}
+use lib.Dec.{leb, leb→le}
 use lib.Ieee.{Float, nan, inf, fin, binary64, isNan, toBits}
 use native.Mathlib.Nat.{pow-suc, pow-le-pow-right}
 use borrow.Author.Tests.{leb-true, le-leb, lt-leb}
+use mir.Facts.{and-yes}
+use Rattle.laws.specs.Truth.{yes}
 use Rattle.format.specs.Numbers.{uint, bytes, item, coordIn}
 use Rattle.format.specs.RowLaws.{passed, both, row-has, row-lacks, last-true, last-false, sets-append}
 
@@ -25,10 +27,6 @@ digit-room n v b h l d =
     let e : 256 ^ (n + 1) ≡ 256 ^ n * 256 = rw add-one (pow-suc 256 n) in
     let m : 256 ^ (n + 1) ≤ 256 ^ 8 = pow-le-pow-right {n = 256} (omega arith) {i = n + 1} {j = 8} (omega arith) in
     (omega arith, omega arith)
-
-and-true : (a b : Bool) → a && b ≡ true → (a ≡ true) × (b ≡ true)
-and-true true b e = (refl, e)
-and-true false b e = let z : false ≡ true = e in (e, cc)
 
 and-false : (a : Bool) → false ≡ a && false
 and-false true = refl
@@ -44,11 +42,11 @@ pub item-passed : (n : ℕ) (s : List ℕ) (at least most number : ℕ) → 0 < 
 unfolding item
 item-passed n s at least most number h e =
     let p = both _ _ e in
-    let q = and-true (leb least (uint n s at)) (leb (uint n s at) most) (passed number _ h (p .1)) in
+    let q = and-yes (leb least (uint n s at)) (leb (uint n s at) most) (yes (passed number _ h (p .1))) in
     record {
       inside = leb-true (at + n) (length s) (passed 6 _ (omega arith) (p .0));
-      from = leb-true least (uint n s at) (q .0);
-      to = leb-true (uint n s at) most (q .1);
+      from = leb→le least (uint n s at) (q .0);
+      to = leb→le (uint n s at) most (q .1);
     }
 
 -- what an item's fault is, v being its number

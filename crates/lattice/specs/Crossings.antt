@@ -10,7 +10,7 @@ use native.Mathlib.Nat.{zero-add, add-sub-cancel-left}
 use borrow.Author.Tests.{lt-ltb, le-ltb}
 use lib.Dec.{ltb}
 use lib.ListN.{length, getD, set, take, drop, length-append, length-take, take-append-drop}
-use lib.Seq.{slice, slice-cons, slice-empty, take-suc-set, take-append-seam, drop-at, getD-take, length-take-le}
+use lib.Seq.{slice, take-suc-set, take-append-seam, drop-at, getD-take, length-take-le}
 use lib.Ieee.{Float}
 use Rattle.float.specs.Ops.{_+ᶠ_, _-ᶠ_, _*ᶠ_, _/ᶠ_, _<ᶠ_, _>ᶠ_, ε}
 use Rattle.glyphs.specs.Points.{Ring, vertices, xAt, yAt}
@@ -259,46 +259,3 @@ rings-done y sizes coords at k l h = rw (rings-end at sizes coords k h) (append-
 pub ends-done : (y : Float) (c : ℕ) (sizes : List ℕ) (coords : List Float) (at k : ℕ) (l : List ℕ) → length sizes ≤ k → l ++ endsOf y c (ringsFrom at (drop k sizes) coords) ≡ l
 unfolding endsOf
 ends-done y c sizes coords at k l h = rw (rings-end at sizes coords k h) (append-nil l)
-
--- ---- asking a point
-
-ascend-le : (from : ℕ) (ends : List ℕ) → Ascend from ends → from ≤ 32
-ascend-le from [] h = h
-ascend-le from (to ∷ ends) h = let k = ascend-le to ends (h .1) in omega (arith, h .0)
-
-ends-step : {rings : ℕ} {ends : List ℕ} → Ends rings ends → (k : ℕ) → k < rings → slice k rings ends ≡ getD ends k 0 ∷ slice (k + 1) rings ends
-ends-step {rings} {ends} p k h = rw (add-one, slice-cons k rings ends 0 h (omega (arith, p .few, p .room)))
-
--- the next end is no less than the one before, and within the crossings
-pub end-next :
-    {rings : ℕ} {ends : List ℕ} → Ends rings ends → (from k : ℕ) → k < rings → Ascend from (slice k rings ends)
-    → (from ≤ getD ends k 0) × (getD ends k 0 ≤ 32) × Ascend (getD ends k 0) (slice (k + 1) rings ends)
-end-next {rings} {ends} p from k h a =
-    let b : Ascend from (getD ends k 0 ∷ slice (k + 1) rings ends) = rw (ends-step p k h) at a in
-    (b .0, ascend-le (getD ends k 0) (slice (k + 1) rings ends) (b .1), b .1)
-
-module _ (x : Float) (rings : ℕ) (crossings : List Float) (ends : List ℕ) where
-  pub outside-outer : odd x (take (getD ends 0 0) crossings) ≡ false → insideLevel x rings crossings ends ≡ false
-  unfolding insideLevel
-  outside-outer e = rw e
-
-  pub inside-outer :
-      odd x (take (getD ends 0 0) crossings) ≡ true → insideLevel x rings crossings ends ≡ not (oddAny x crossings (getD ends 0 0) (slice 1 rings ends))
-  unfolding insideLevel
-  inside-outer e = rw e
-
-  -- a turn of the loop over the holes
-  module _ (p : Ends rings ends) (from k : ℕ) (h : k < rings) where
-    pub inside-hole : odd x (take (getD ends k 0 - from) (drop from crossings)) ≡ true → oddAny x crossings from (slice k rings ends) ≡ true
-    unfolding oddAny
-    inside-hole e = rw (ends-step p k h, e)
-
-    pub outside-hole :
-        odd x (take (getD ends k 0 - from) (drop from crossings)) ≡ false
-        → oddAny x crossings from (slice k rings ends) ≡ oddAny x crossings (getD ends k 0) (slice (k + 1) rings ends)
-    unfolding oddAny
-    outside-hole e = rw (ends-step p k h, e)
-
-  pub no-hole : (from k : ℕ) → k ≡ rings → oddAny x crossings from (slice k rings ends) ≡ false
-  unfolding oddAny
-  no-hole from k e = rw (e, slice-empty rings ends)

@@ -1,34 +1,33 @@
 -- An edge that is far above or below a place is not nearer to it than a clearance c: no error is estimated, since rounding keeps the order.
--- Rests on the rounding laws, and on what the square from which a root is at least c says.
+-- Rests on the rounding laws, on how far along the edge the nearest point lies, and on what the square from which a root is at least c says.
 use mathlib.Core.Path.{_≡_, refl, ap, subst}
 use mathlib.Core.Logic.{_⊎_, inl, inr}
-use mathlib.Core.Bool.{Bool, true, false, not, cond, _&&_}
+use mathlib.Core.Bool.{Bool, true, false, not, _&&_}
 use Prim.Native.Nat.{ℕ, _≤_}
 use native.Mathlib.Nat.{mul-le-mul, mul-le-mul-right}
 use native.Mathlib.Omega.{arith}
 use lib.Dec.{T, lit<, lit≤, not-T}
 use lib.Ieee.{Float, nan, inf, fin, binary64, add, sub, mul, neg, lt, le, isNan, unlike, ofBits, fits}
 use lib.Ieee.Bits.{is-true, is-false}
-use lib.Ieee.Fits.{div-fits}
 use lib.Ieee.Scale.{finite}
 use Rattle.laws.specs.Truth.{yes}
-use Rattle.float.specs.Ops.{_+ᶠ_, _-ᶠ_, _*ᶠ_, _/ᶠ_, _<ᶠ_, _≤ᶠ_, _>ᶠ_, literal, 0ᶠ, 1ᶠ}
-use Rattle.float.specs.Order.{clamp, sqrt}
+use Rattle.float.specs.Ops.{_+ᶠ_, _-ᶠ_, _*ᶠ_, _/ᶠ_, _<ᶠ_, _≤ᶠ_, literal, 0ᶠ}
+use Rattle.float.specs.Order.{sqrt}
 use Rattle.float.specs.Root.{rootOf}
-use Rattle.float.specs.Laws.Nan.{Number, nan-or, lt-nan, le-number}
+use Rattle.float.specs.Laws.Nan.{Number, lt-nan, le-number}
 use Rattle.float.specs.Laws.Zero.{origin, origin-is}
 use Rattle.float.specs.Laws.Compare.{le-trans, lt-not-le, neg-number, neg-twice}
-use Rattle.float.specs.Laws.Order.{clamp-fits, clamp-ge, clamp-le}
 use Rattle.float.specs.Laws.Square.{Square, times-self}
 use Rattle.rounding.specs.Signed.{Exact, signed, nat, opp, _≼_}
 use Rattle.rounding.specs.Value.{U, sgn, mag, val, Num, digits, digits-zero, neg-num, neg-val}
 use Rattle.rounding.specs.Comparison.{le→≼, ≼→le, ¬lt→≼}
 use Rattle.rounding.specs.Errors.{add-of-finite, mul-of-finite}
 use Rattle.rounding.specs.Monotone.{add-mono, sub-mono, mul-mono}
-use Rattle.rounding.specs.Bounds.{Sized, wider, neg-sized, add-sized, sub-sized, mul-sized, ranged}
-use Rattle.rounding.specs.Signs.{Nonneg, zero-num, zero-val, zero-sized, square-plus, add-case}
-use Rattle.regions.specs.Clearance.{along, edgeSquare}
+use Rattle.rounding.specs.Bounds.{Sized, neg-sized, add-sized, sub-sized, mul-sized, ranged}
+use Rattle.rounding.specs.Signs.{Nonneg, zero-num, zero-val, square-plus, add-case}
+use Rattle.regions.specs.Clearance.{edgeSquare}
 use Rattle.regions.specs.Margin.{highSquare, none, high-square}
+use Rattle.lattice.specs.Along.{Part, along-part}
 
 -- what makes sure that whatever is `reach` off the coordinate v of a place keeps the clearance c
 pub record Reaches (c v reach : Float) : Type 0 where
@@ -74,40 +73,6 @@ pub beyond :
 beyond v reach a b s t f g o e =
     let h = both s t e in
     record { from = f (is-true s (h .0)); to = g (is-true t (h .1)); off = o }
-
--- ---- how far along the edge: from 0 to 1, or NaN
-record Part (t : Float) : Type 0 where
-  sized : Sized t 1
-  nonneg : Nonneg t
-
-zero-part : Part 0ᶠ
-zero-part = record { sized = wider (omega arith) zero-sized; nonneg = rw zero-val (omega arith) }
-
-one-sized : Sized 1ᶠ 1
-unfolding ofBits fits mag U
-one-sized = record { num = record { fit = tt; fine = tt }; size = lit≤ tt }
-
-zero-one : T (0ᶠ ≤ᶠ 1ᶠ)
-unfolding ofBits le
-zero-one = tt
-
-clamped : (x : Float) → T (fits binary64 x) → Number x → Part (clamp x 0ᶠ 1ᶠ)
-clamped x f n =
-    let low = clamp-ge x 0ᶠ 1ᶠ n zero-one in
-    let s = ranged (clamp-fits x 0ᶠ 1ᶠ f (zero-num .fit) (one-sized .num .fit)) (wider (omega arith) zero-sized) one-sized low (clamp-le x 0ᶠ 1ᶠ n zero-one) in
-    record { sized = s; nonneg = rw zero-val at (le→≼ 0ᶠ (clamp x 0ᶠ 1ᶠ) zero-num (s .num) low) }
-
-clamp-nan : clamp nan 0ᶠ 1ᶠ ≡ nan
-unfolding clamp lt
-clamp-nan = rw (lt-nan 1ᶠ .0)
-
-along-part : (dot len2 : Float) → (along dot len2 ≡ nan) ⊎ Part (along dot len2)
-unfolding along
-along-part dot len2 = go (len2 >ᶠ 0ᶠ)
-  where
-    go : (t : Bool) → (cond t (clamp (dot /ᶠ len2) 0ᶠ 1ᶠ) 0ᶠ ≡ nan) ⊎ Part (cond t (clamp (dot /ᶠ len2) 0ᶠ 1ᶠ) 0ᶠ)
-    go true = elim (nan-or (dot /ᶠ len2)) [ inl e ↦ inl (rw e clamp-nan) | inr n ↦ inr (clamped (dot /ᶠ len2) (div-fits binary64 dot len2) n) ]
-    go false = inr zero-part
 
 -- ---- numbers only
 -- k at most of n, with n's sign or none

@@ -1,4 +1,6 @@
+pub mod Along
 pub mod Around
+pub mod Asked
 pub mod Beside
 pub mod Context
 pub mod Crossings

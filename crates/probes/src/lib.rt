@@ -171,12 +171,12 @@ pub extern "C" fn probe_relax_scatter(
     ensures { λ _. ⌜ now (spots .exit) ≡ flat (relaxScatter source (spotsOf (now (spots .entry))) (pieceOf (now (sizes .entry)) (now (coords .entry))) (rectangles (now (obstacles .entry))) spacing inset) ⌝ }
 {
     let n = spots.len() / 2;
-    let mut clearances = [0.0; 2000];
+    let mut unrooted = [0.0; 2000];
     let mut honoring = [0.0; 2000];
     relax::sweeps::relax_scatter(
         relax::Spreading::SOURCE,
         spots,
-        &mut clearances[..n],
+        &mut unrooted[..n],
         &mut honoring[..n],
         sizes,
         coords,

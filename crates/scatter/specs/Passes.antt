@@ -163,29 +163,13 @@ module _ (piece : Piece) (n : ℕ) (ctx : PackCtx) (near : List Rectangle) (anch
   abbrev ends : Bool
   ends = ctx .mode .«strict_obstacles» || eqb (length near) 0
 
-  pub strict-once : ctx .mode .«strict_obstacles» ≡ true → run true [] ≡ both
+  pub once : ends ≡ true → run true [] ≡ both
   unfolding passes
-  strict-once h = pick-true honored topped ends (one (ctx .mode .«strict_obstacles») (eqb (length near) 0) h) (pass-is true (budget n) 0 [])
-    where
-      one : (s t : Bool) → s ≡ true → s || t ≡ true
-      one s t k = rw k
+  once h = pick-true honored topped ends h (pass-is true (budget n) 0 [])
 
-  pub free-once : length near ≡ 0 → run true [] ≡ both
+  pub twice : ends ≡ false → run false (run true []) ≡ both
   unfolding passes
-  free-once h = pick-true honored topped ends (other (ctx .mode .«strict_obstacles») (eqb (length near) 0) (eq-eqb (length near) 0 h)) (pass-is true (budget n) 0 [])
-    where
-      other : (s t : Bool) → t ≡ true → s || t ≡ true
-      other true t k = refl
-      other false t k = k
-
-  pub twice : ctx .mode .«strict_obstacles» ≡ false → (length near ≡ 0 → ⊥) → run false (run true []) ≡ both
-  unfolding passes
-  twice h k =
-      pick-false honored topped ends (neither (ctx .mode .«strict_obstacles») (eqb (length near) 0) h (ne-eqb (length near) 0 k))
-      (ap (run false) (pass-is true (budget n) 0 []) ∙ pass-is false (budget n) 0 honored)
-    where
-      neither : (s t : Bool) → s ≡ false → t ≡ false → s || t ≡ false
-      neither s t l m = rw (l, m)
+  twice h = pick-false honored topped ends h (ap (run false) (pass-is true (budget n) 0 []) ∙ pass-is false (budget n) 0 honored)
 
 -- ---- a lone mark's anchor
 module _ (poi : Point) (piece : Piece) (n : ℕ) (ctx : PackCtx) (obstacles : List Rectangle) where

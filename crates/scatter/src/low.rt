@@ -235,10 +235,7 @@ fn passes(
         &mut hints,
         &mut spots[..],
     );
-    if ctx.mode.strict_obstacles {
-        return first;
-    }
-    if near.len() / 4 == 0 {
+    if ctx.mode.strict_obstacles | (near.len() / 4 == 0) {
         return first;
     }
     pass(

@@ -155,7 +155,7 @@ fn throw_passes(
     )
 }
 
-// Evens out the first `count` marks of `spots`.
+// Evens out the first `count` marks of `spots`; `unrooted` and `honoring` lend the room for what relaxation notes of each.
 fn relax_placed(
     numbers: Spreading,
     count: usize,
@@ -163,18 +163,18 @@ fn relax_placed(
     sizes: &[usize],
     coords: &[f64],
     near: &[f64],
-    clearances: &mut [f64],
+    unrooted: &mut [f64],
     honoring: &mut [f64],
     spots: &mut [f64],
 )
-    requires { ⌜ (0 < length (now sizes)) × (sum (now sizes) * 2 ≤ length (now coords)) × (count ≤ length (now clearances)) × (count ≤ length (now honoring)) × (count * 2 ≤ length (now spots)) ⌝ }
+    requires { ⌜ (0 < length (now sizes)) × (sum (now sizes) * 2 ≤ length (now coords)) × (count ≤ length (now unrooted)) × (count ≤ length (now honoring)) × (count * 2 ≤ length (now spots)) ⌝ }
     ensures { λ _. ⌜ now (spots .exit) ≡ written (flat (relaxScatter numbers (take count (spotsOf (now (spots .entry)))) (pieceOf (now (sizes .entry)) (now (coords .entry))) (rectangles (now (near .entry))) (spacing ctx) (inset ctx))) (now (spots .entry)) ⌝ }
 {
     let e = count * 2;
     relax_scatter(
         numbers,
         &mut spots[..e],
-        &mut clearances[..count],
+        &mut unrooted[..count],
         &mut honoring[..count],
         sizes,
         coords,
@@ -195,11 +195,11 @@ pub fn pack_random_piece(
     obstacles: &[f64],
     rng: Stream,
     near: &mut [f64],
-    clearances: &mut [f64],
+    unrooted: &mut [f64],
     honoring: &mut [f64],
     spots: &mut [f64],
 ) -> Taken
-    requires { ⌜ (0 < length (now sizes)) × (sum (now sizes) * 2 ≤ length (now coords)) × (length (now obstacles) ≤ length (now near)) × (n ≤ length (now clearances)) × (n ≤ length (now honoring)) × (n * 2 ≤ length (now spots)) ⌝ }
+    requires { ⌜ (0 < length (now sizes)) × (sum (now sizes) * 2 ≤ length (now coords)) × (length (now obstacles) ≤ length (now near)) × (n ≤ length (now unrooted)) × (n ≤ length (now honoring)) × (n * 2 ≤ length (now spots)) ⌝ }
     ensures { λ r. ⌜ Holds (packRandomPiece numbers (pieceOf (now (sizes .entry)) (now (coords .entry))) n attempts ctx (rectangles (now (obstacles .entry))) rng) r (now (spots .exit)) (now (spots .entry)) ⌝ }
 {
     let bounds = piece_bounds(sizes, coords);
@@ -235,7 +235,7 @@ pub fn pack_random_piece(
             sizes,
             coords,
             local,
-            &mut clearances[..],
+            &mut unrooted[..],
             &mut honoring[..],
             &mut spots[..],
         );

@@ -8,7 +8,8 @@ use native.Mathlib.Omega.{arith}
 use borrow.Author.Needs.{needs}
 use borrow.Author.Tests.{not-true, not-false}
 use lib.Seq.{slice, length-take-le}
-use Rattle.lattice.specs.Crossings.{oddAny, insideLevel, Ascend, end-next, outside-outer, inside-outer, inside-hole, outside-hole, no-hole}
+use Rattle.lattice.specs.Crossings.{oddAny, insideLevel, Ascend}
+use Rattle.lattice.specs.Asked.{end-next, outside-outer, inside-outer, inside-hole, outside-hole, no-hole}
 use Rattle.lattice.proofs.crossings.inside_level.Statement.{statement}
 use Rattle.lattice.proofs.crossings.inside_level.Tie as tie
 

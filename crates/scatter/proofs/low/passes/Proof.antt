@@ -1,6 +1,6 @@
 -- `passes` meets its contract: the second pass is made where obstacles are near and not walls.
 -- Rests on the laws of both passes, and of a second run over what a first has placed.
-use mathlib.Core.Path.{refl, sym, ap, _∙_}
+use mathlib.Core.Path.{refl, ap, _∙_}
 use mathlib.Core.Bool.{true, false}
 use mathlib.Core.List.{List, []}
 use native.Mathlib.Omega.{arith}
@@ -14,7 +14,7 @@ use Rattle.regions.specs.Margin.{least-of-margin, margin-own}
 use Rattle.regions.specs.Ring.{pieceOf}
 use Rattle.lattice.specs.Around.{length-rectangles}
 use Rattle.scatter.specs.LowDiscrepancy.{budget}
-use Rattle.scatter.specs.Passes.{passIn, pass-counts, strict-once, free-once, twice}
+use Rattle.scatter.specs.Passes.{passIn, pass-counts, once, twice}
 use Rattle.scatter.specs.Placed.{length-placed, run-on, written-on}
 use Rattle.scatter.proofs.low.passes.Statement.{statement}
 use Rattle.scatter.proofs.low.passes.Tie as tie
@@ -27,20 +27,11 @@ pass-requires c κs =
 
 returns : tie.Need-returns
 returns c =
-    let ran = c .before .before .before in
-    let gridded = ran .before .before .before in
-    let made = gridded .before in
-    let a = made .before .before .before .before .before .before .args in
-    let e = strict-once (pieceOf (a .sizes .now) (a .coords .now)) (a .n) (a .ctx) (rectangles (a .near .now)) (a .anchor) (a .e) _ _ (least-of-margin _ _ (made .of .ensures) ∙ made .before .inset .ensures) (gridded .of2 .ensures) (c .if1 .taken) in
-    (ran .pass .ensures .0 ∙ ap length e, ran .pass .ensures .1 ∙ ap (λ (ps : List Point). written (flat ps) (a .spots .now)) e)
-
-returns-2 : tie.Need-returns-2
-returns-2 c =
     let ran = c .before .before .before .before in
     let gridded = ran .before .before .before in
     let made = gridded .before in
     let a = made .before .before .before .before .before .before .args in
-    let e = free-once (pieceOf (a .sizes .now) (a .coords .now)) (a .n) (a .ctx) (rectangles (a .near .now)) (a .anchor) (a .e) _ _ (least-of-margin _ _ (made .of .ensures) ∙ made .before .inset .ensures) (gridded .of2 .ensures) (length-rectangles (a .near .now) ∙ c .if2 .taken) in
+    let e = once (pieceOf (a .sizes .now) (a .coords .now)) (a .n) (a .ctx) (rectangles (a .near .now)) (a .anchor) (a .e) _ _ (least-of-margin _ _ (made .of .ensures) ∙ made .before .inset .ensures) (gridded .of2 .ensures) (rw length-rectangles (c .if1 .taken)) in
     (ran .pass .ensures .0 ∙ ap length e, ran .pass .ensures .1 ∙ ap (λ (ps : List Point). written (flat ps) (a .spots .now)) e)
 
 pass-requires-2 : tie.Need-pass-requires-2
@@ -55,8 +46,8 @@ pass-requires-2 c κs =
     let same = ap length (ran .pass .ensures .1) ∙ length-placed ps (a .spots .now) (length ps) refl (omega (arith, most, s .pre .2)) in
     (s .pre .0, s .pre .1, margin-own _ _ (made .of .ensures), omega (arith, ran .pass .ensures .0, most), omega (arith, same, s .pre .2))
 
-returns-3 : tie.Need-returns-3
-returns-3 c =
+returns-2 : tie.Need-returns-2
+returns-2 c =
     let again = c .before .before in
     let free = again .before .before .before in
     let ran = free .before .before .before .before in
@@ -66,7 +57,7 @@ returns-3 c =
     let ps = passIn (pieceOf (a .sizes .now) (a .coords .now)) (a .n) (made .of .result .least) (rectangles (a .near .now)) (gridded .of2 .result) (a .anchor) (a .e) true (budget (a .n)) 0 [] in
     let next : List Point → List Point = passIn (pieceOf (a .sizes .now) (a .coords .now)) (a .n) (made .of .result .least) (rectangles (a .near .now)) (gridded .of2 .result) (a .anchor) (a .e) false (budget (a .n)) 0 in
     let counts = pass-counts (pieceOf (a .sizes .now) (a .coords .now)) (a .n) (made .of .result .least) (rectangles (a .near .now)) (gridded .of2 .result) (a .anchor) (a .e) in
-    let both = twice (pieceOf (a .sizes .now) (a .coords .now)) (a .n) (a .ctx) (rectangles (a .near .now)) (a .anchor) (a .e) _ _ (least-of-margin _ _ (made .of .ensures) ∙ made .before .inset .ensures) (gridded .of2 .ensures) (free .before .if1 .left) (λ h. free .if2 .left (sym (length-rectangles (a .near .now)) ∙ h)) in (
+    let both = twice (pieceOf (a .sizes .now) (a .coords .now)) (a .n) (a .ctx) (rectangles (a .near .now)) (a .anchor) (a .e) _ _ (least-of-margin _ _ (made .of .ensures) ∙ made .before .inset .ensures) (gridded .of2 .ensures) (rw length-rectangles (free .if1 .left)) in (
       again .pass2 .ensures .0 ∙ ap length (run-on ps (a .spots .now) _ _ (ran .pass .ensures .0) (ran .pass .ensures .1) next ∙ both),
       again .pass2 .ensures .1
           ∙ written-on ps (a .spots .now) _ _ (ran .pass .ensures .0) (ran .pass .ensures .1) next (counts false (budget (a .n)) 0 ps (counts true (budget (a .n)) 0 [] (omega arith) .1) .0)
@@ -83,8 +74,6 @@ passes-spec =
     pass-requires
     (λ c. search needs)
     returns
-    (λ c. search needs)
-    returns-2
     pass-requires-2
     (λ c. search needs)
-    returns-3)
+    returns-2)
