@@ -46,7 +46,7 @@ pub fn spots_after(spots: &[f64], i: usize) -> &[f64]
 }
 
 // Whether (x, y) keeps a distance whose square is `least` from a mark.
-fn apart(x: f64, y: f64, least: f64, q: Point) -> bool
+pub fn apart(x: f64, y: f64, least: f64, q: Point) -> bool
     ensures { λ r. ⌜ r ≡ apart x y least q ⌝ }
 {
     (x - q.x) * (x - q.x) + (y - q.y) * (y - q.y) >= least

@@ -1,4 +1,4 @@
--- The other marks are those before mark i and those after it; marks too far away push nothing; and the order of an acceptance's tests does not matter.
+-- The other marks are those before mark i and those after it; marks too far away push nothing, so that those near enough may be gathered; and the order of an acceptance's tests does not matter.
 -- Rests on the definitions and the laws of `all`.
 use mathlib.Core.Path.{_≡_, refl, sym, ap, _∙_}
 use mathlib.Core.Bool.{Bool, true, false, not, cond, _&&_, _||_}
@@ -6,11 +6,14 @@ use mathlib.Core.List.{List, [], _∷_, foldl}
 use Prim.Native.Nat.{ℕ, zero, suc, _+_, _<_}
 use native.Mathlib.Omega.{arith}
 use native.Mathlib.Numerals.{add-one}
-use native.Mathlib.Nat.{zero-add}
-use lib.ListN.{length, take, drop}
+use native.Mathlib.Nat.{zero-add, le-refl}
+use lib.ListN.{length, take, drop, set, length-set}
+use lib.Seq.{take-set-le, getD-set-same}
 use lib.Ieee.{Float}
+use mir.Val.{boolByte}
 use borrow.Author.Tests.{eq-eqb, ne-eqb}
 use Rattle.laws.specs.Any.{all}
+use Rattle.laws.specs.Blocks.{fold-next}
 use Rattle.float.specs.Ops.{_*ᶠ_, _<ᶠ_}
 use Rattle.glyphs.specs.declared.rect.Point.{Point}
 use Rattle.glyphs.specs.declared.rect.Rectangle.{Rectangle}
@@ -96,6 +99,23 @@ module _ (influence : Float) (p : Point) where
   far-all (q ∷ qs) f h =
       let e = both (apart (p .x) (p .y) (influence *ᶠ influence) q) (all (apart (p .x) (p .y) (influence *ᶠ influence)) qs) h in
       rw (far q f (e .0)) (far-all qs f (e .1))
+
+  -- a mark written behind the m of a list, and counted if it is near enough
+  pub gathered :
+      (near : List Point) (m : ℕ) (q : Point) (f : Force) → m < length near
+      → foldl (pushOf influence p) f (take (m + boolByte (not (apart (p .x) (p .y) (influence *ᶠ influence) q))) (set near m q))
+      ≡ pushOf influence p (foldl (pushOf influence p) f (take m near)) q
+  gathered near m q f h = go (apart (p .x) (p .y) (influence *ᶠ influence) q) refl
+    where
+      go :
+          (b : Bool) → apart (p .x) (p .y) (influence *ᶠ influence) q ≡ b
+          → foldl (pushOf influence p) f (take (m + boolByte (not b)) (set near m q)) ≡ pushOf influence p (foldl (pushOf influence p) f (take m near)) q
+      go true e =
+          let z : m + 0 ≡ m = omega arith in
+          rw (z, take-set-le m near m q (le-refl m)) (sym (far q (foldl (pushOf influence p) f (take m near)) e))
+      go false e =
+          let l : m < length (set near m q) = simp length-set h in
+          fold-next (pushOf influence p) f (set near m q) m q l ∙ rw (take-set-le m near m q (le-refl m), getD-set-same near m q q h)
 
 -- ---- the tests of an acceptance, in another order
 

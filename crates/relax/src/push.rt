@@ -6,7 +6,9 @@ ghost use lib.ListN.{length, take, drop};
 ghost use Rattle.glyphs.specs.Spots.{spotsOf};
 ghost use Rattle.relax.specs.Field.{at, noForce, pushOf, pushes};
 use glyphs::rect::Point;
+use glyphs::spots::apart;
 use glyphs::spots::apart_from_eight;
+use glyphs::spots::put_spot;
 use glyphs::spots::spot;
 use glyphs::spots::spots_after;
 use glyphs::spots::spots_before;
@@ -70,12 +72,46 @@ fn push_all(influence: f64, p: Point, start: Force, spots: &[f64]) -> Force
     f
 }
 
+// Puts the marks of a slice that are near enough to push behind the `m` of a list, and answers how many there are then.
+// Which these are nobody can guess, so there is no branch on it: a mark that is not is overwritten.
+fn gather(influence: f64, p: Point, spots: &[f64], near: &mut [f64], m: usize) -> usize
+    requires { ⌜ m + length (now spots) / 2 ≤ length (now near) / 2 ⌝ }
+    ensures { λ r. ⌜ (r ≤ m + length (now (spots .entry)) / 2) × (length (now (near .exit)) ≡ length (now (near .entry))) × ((f : Force) → foldl (pushOf influence p) f (take r (spotsOf (now (near .exit)))) ≡ foldl (pushOf influence p) (foldl (pushOf influence p) f (take m (spotsOf (now (near .entry))))) (spotsOf (now (spots .entry)))) ⌝ }
+{
+    let reach = influence * influence;
+    let n = spots.len() / 2;
+    let mut count = m;
+    let mut k = 0;
+    while k < n {
+        let q = spot(spots, k);
+        put_spot(&mut near[..], count, q);
+        let far = apart(p.x, p.y, reach, q);
+        count += (!far) as usize;
+        k += 1;
+    }
+    count
+}
+
+// The pushes of all other marks on mark `i`, which is at p: of few marks those near enough are gathered first.
+fn push_few(influence: f64, p: Point, i: usize, spots: &[f64]) -> Force
+    requires { ⌜ (i < length (now spots) / 2) × (length (now spots) ≤ 64) ⌝ }
+    ensures { λ r. ⌜ r ≡ foldl (pushOf influence p) (foldl (pushOf influence p) noForce (take i (spotsOf (now (spots .entry))))) (drop (i + 1) (spotsOf (now (spots .entry)))) ⌝ }
+{
+    let mut near = [0.0; 64];
+    let before = gather(influence, p, spots_before(spots, i), &mut near[..], 0);
+    let all = gather(influence, p, spots_after(spots, i), &mut near[..], before);
+    push_all(influence, p, Force { x: 0.0, y: 0.0 }, &near[..all * 2])
+}
+
 // The pushes of all other marks on mark `i`.
 pub fn push_others(influence: f64, i: usize, spots: &[f64]) -> Force
     requires { ⌜ i < length (now spots) / 2 ⌝ }
     ensures { λ r. ⌜ r ≡ pushes influence i (at (spotsOf (now (spots .entry))) i) 0 (spotsOf (now (spots .entry))) noForce ⌝ }
 {
     let p = spot(spots, i);
+    if spots.len() <= 64 {
+        return push_few(influence, p, i, spots);
+    }
     let f = push_all(
         influence,
         p,
