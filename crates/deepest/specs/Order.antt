@@ -14,6 +14,7 @@ use lib.Dec.{T, ltb}
 use lib.ListN.{length, getD, take, set}
 use lib.Seq.{take-all, take-suc-set, append-snoc}
 use lib.Ieee.{Float, nan, inf, fin, lt, isNan}
+use mir.Facts.{and-yes}
 use Rattle.laws.specs.Truth.{yes, no, refuted, or-split}
 use Rattle.float.specs.Ops.{_+ᶠ_, _*ᶠ_, _/ᶠ_, _<ᶠ_, literal, 2ᶠ}
 use Rattle.float.specs.Laws.Nan.{Number, lt-number}
@@ -72,12 +73,7 @@ clash false p q = p
 -- how one is lower
 low-cases : (x y : Float) → T (lowerThan x y) → T (lt x y) ⊎ (T (isNan x) × Number y)
 unfolding lowerThan
-low-cases x y h = elim (or-split (lt x y) (isNan x && not (isNan y)) h) [ inl l ↦ inl l | inr n ↦ inr (both (isNan x) (not (isNan y)) n) ]
-  where
-    both : (a b : Bool) → T (a && b) → T a × T b
-    both true true t = (tt, tt)
-    both true false t = absurd t
-    both false b t = absurd t
+low-cases x y h = elim (or-split (lt x y) (isNan x && not (isNan y)) h) [ inl l ↦ inl l | inr n ↦ inr (and-yes (isNan x) (not (isNan y)) n) ]
 
 lt-low : (x y : Float) → T (lt x y) → T (lowerThan x y)
 unfolding lowerThan

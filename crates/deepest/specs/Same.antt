@@ -7,13 +7,8 @@ use borrow.Author.Tests.{eqb-true, eq-eqb}
 use lib.Dec.{eqb}
 use lib.IntN.{ℤ, pos, negsuc}
 use lib.Ieee.{Float, nan, inf, fin}
-use Rattle.laws.specs.Truth.{yes, same-answer}
+use Rattle.laws.specs.Truth.{yes, same-answer, both-true}
 use Rattle.deepest.specs.declared.queue.Cell.{Cell}
-
-both : (a b : Bool) → a && b ≡ true → (a ≡ true) × (b ≡ true)
-both true true e = (refl, refl)
-both true false e = absurd (true≢false (sym e))
-both false b e = absurd (true≢false (sym e))
 
 selfBool : (a : Bool) → Bool·beq a a ≡ true
 selfBool true = refl
@@ -60,8 +55,8 @@ float-same (inf s) (fin t n d) e = absurd (true≢false (sym e))
 float-same (fin s m a) nan e = absurd (true≢false (sym e))
 float-same (fin s m a) (inf t) e = absurd (true≢false (sym e))
 float-same (fin s m a) (fin t n d) e =
-    let p = both (Bool·beq s t) (eqb m n && intEq a d) e in
-    let q = both (eqb m n) (intEq a d) (p .1) in
+    let p = both-true (Bool·beq s t) (eqb m n && intEq a d) e in
+    let q = both-true (eqb m n) (intEq a d) (p .1) in
     let f = same-answer s t (yes (p .0)) in
     let g = eqb-true m n (q .0) in
     let h = int-same a d (q .1) in
@@ -84,10 +79,10 @@ made x y d h n = record { x = x; y = y; d = d; halvings = h; entry = n }
 pub cell-same : (a b : Cell) → cellEq a b ≡ true → a ≡ b
 unfolding cellEq made
 cell-same a b e =
-    let p = both _ _ e in
-    let q = both _ _ (p .1) in
-    let r = both _ _ (q .1) in
-    let s = both _ _ (r .1) in
+    let p = both-true _ _ e in
+    let q = both-true _ _ (p .1) in
+    let r = both-true _ _ (q .1) in
+    let s = both-true _ _ (r .1) in
     let x = float-same (a .x) (b .x) (p .0) in
     let y = float-same (a .y) (b .y) (q .0) in
     let d = float-same (a .d) (b .d) (r .0) in

@@ -1,7 +1,7 @@
 -- The edges near a height, written to an array four floats each: a place of that height keeps a clearance from the piece where it keeps it from them.
 -- Rests on the law of far edges, and on the least of distances being at least c where each of them is.
 use mathlib.Core.Path.{_≡_, refl, sym, ap, _∙_}
-use mathlib.Core.Bool.{Bool, true, false, not, cond, _&&_}
+use mathlib.Core.Bool.{Bool, true, false, not, cond, _&&_, and-true, and-assoc}
 use mathlib.Core.List.{List, [], _∷_, map, map-append, foldl}
 use Prim.Native.Nat.{ℕ, zero, suc, _+_, _-_, _*_, _≤_, _<_}
 use native.Mathlib.Numerals.{add-one}
@@ -12,7 +12,7 @@ use lib.Ieee.{Float, nan, inf, fin, binary64, le, isNan, ofBits}
 use lib.Ieee.Bits.{is-true, is-false}
 use Rattle.laws.specs.Any.{all}
 use Rattle.laws.specs.Blocks.{all-last}
-use Rattle.laws.specs.Truth.{yes, no, and-true, and-assoc}
+use Rattle.laws.specs.Truth.{yes, no}
 use Rattle.float.specs.Ops.{_*ᶠ_, _<ᶠ_, _≤ᶠ_, literal, 0ᶠ, ∞}
 use Rattle.float.specs.Order.{sqrt}
 use Rattle.float.specs.Laws.Nan.{Number, lt-number}

@@ -1,13 +1,12 @@
 -- `all` and folds over a list that is taken block by block: the first elements, and the rest.
 -- Rests on the kit's laws of `take` and `drop`.
 use mathlib.Core.Path.{_≡_, refl, sym, ap, _∙_}
-use mathlib.Core.Bool.{Bool, _&&_}
+use mathlib.Core.Bool.{Bool, _&&_, and-true, and-assoc}
 use mathlib.Core.List.{List, [], _∷_, _++_, foldl, foldl-append}
 use Prim.Native.Nat.{ℕ, _+_, _<_}
 use native.Mathlib.Numerals.{add-one}
 use lib.ListN.{length, getD, take, drop, take-append-drop}
 use lib.Seq.{take-suc, drop-drop}
-use Rattle.laws.specs.Truth.{and-true, and-assoc}
 use Rattle.laws.specs.Any.{all}
 
 module _ {A : Type 0} (p : A → Bool) where

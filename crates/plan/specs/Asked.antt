@@ -10,6 +10,7 @@ use lib.Dec.{eqb, ltb, leb}
 use lib.ListN.{length, drop, length-take, length-drop}
 use lib.Ieee.{Float}
 use Rattle.laws.specs.Sorted.{weigh}
+use Rattle.laws.specs.Truth.{both-true}
 use Rattle.glyphs.specs.Bounds.{ringBounds}
 use Rattle.glyphs.specs.Hash.{fnv1a}
 use Rattle.glyphs.specs.Stream.{seeded}
@@ -54,7 +55,6 @@ use Rattle.plan.specs.Rows.{past-piece}
 use Rattle.plan.specs.Placing.{placeFor, Fair}
 use Rattle.plan.specs.Left.{Left, own-row, own-readable, own-left-in, left-next}
 use Rattle.plan.specs.Own.{length-quotas, length-threes-of, Filled, ownOf, own-shares, own-deepest, filled-next, handed-own}
-use Rattle.plan.specs.Sound.{both-true}
 
 -- ---- one piece
 

@@ -8,6 +8,7 @@ use native.Mathlib.Omega.{arith}
 use lib.ListN.{length}
 use Rattle.laws.specs.Any.{all}
 use Rattle.laws.specs.Every.{Every, every-map, every-weaken}
+use Rattle.laws.specs.Truth.{both-true}
 use Rattle.glyphs.specs.Rect.{sanitizeObstacles}
 use Rattle.glyphs.specs.declared.rect.Rectangle.{Rectangle}
 use Rattle.regions.specs.Ring.{Piece}
@@ -25,7 +26,7 @@ use Rattle.relax.specs.Scatter.{source}
 use Rattle.job.specs.Plan.{room, ceilingOf}
 use Rattle.plan.specs.Own.{length-quotas, foundOf, ownOf}
 use Rattle.plan.specs.Read.{left-in-found}
-use Rattle.plan.specs.Sound.{both-true, points-back}
+use Rattle.plan.specs.Sound.{points-back}
 use Rattle.plan.specs.Packing.{packsAt, all-sound, packing-own}
 use Rattle.plan.specs.Sized.{ceilingFor, sizingFor}
 

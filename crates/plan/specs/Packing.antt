@@ -5,6 +5,7 @@ use mathlib.Core.Path.{_≡_, refl}
 use mathlib.Core.Bool.{Bool, true}
 use mathlib.Core.List.{List, [], _∷_}
 use Rattle.laws.specs.Any.{all}
+use Rattle.laws.specs.Truth.{both-true}
 use Rattle.float.specs.Ops.{_>ᶠ_, 0ᶠ}
 use Rattle.glyphs.specs.declared.options.GlyphArrangement.{GlyphArrangement}
 use Rattle.regions.specs.Ring.{Piece}
@@ -21,7 +22,7 @@ use Rattle.discs.specs.FloorLaws.{OwnPacking}
 use Rattle.plan.specs.Found.{foundIn}
 use Rattle.plan.specs.Own.{foundOf, ownOf}
 use Rattle.plan.specs.Read.{left-in-found}
-use Rattle.plan.specs.Sound.{sound, Sound, sound-nothing, sound-cond, point-sound, both-true, points-back}
+use Rattle.plan.specs.Sound.{sound, Sound, sound-nothing, sound-cond, point-sound, points-back}
 
 -- a radius that is packed at: an automatic one, or one above 0
 unfoldable pub packsAt : Radius → Bool

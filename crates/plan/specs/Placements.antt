@@ -7,6 +7,7 @@ use mathlib.Core.List.{List, [], _∷_, _++_, map}
 use lib.ListN.{length}
 use lib.Ieee.{Float}
 use Rattle.laws.specs.Any.{all}
+use Rattle.laws.specs.Truth.{both-true}
 use Rattle.glyphs.specs.declared.rect.Point.{Point}
 use Rattle.glyphs.specs.declared.rect.Rectangle.{Rectangle}
 use Rattle.sheet.specs.Sheet.{Placement}
@@ -26,7 +27,6 @@ use Rattle.plan.specs.Rows.{flatRows}
 use Rattle.plan.specs.Left.{Left, own-left-in, left-next}
 use Rattle.plan.specs.Placing.{placeFor, placementFor, placedAt}
 use Rattle.plan.specs.Own.{foundOf, ownOf, Filled, handed-own, filled-next}
-use Rattle.plan.specs.Sound.{both-true}
 
 module _ (sizing : Sizing) (options : GlyphOptions) (obstacles : List Rectangle) where
   -- a zone with its spots, as the sizing says

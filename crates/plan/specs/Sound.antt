@@ -2,13 +2,14 @@
 -- Rests on the definition of the search.
 use Prim.Native.Nat.{ℕ, zero, suc, _+_}
 use mathlib.Core.Path.{_≡_, refl, ap, _∙_}
-use mathlib.Core.Bool.{Bool, true, false, cond, _&&_, _||_}
+use mathlib.Core.Bool.{Bool, true, false, cond, _||_}
 use mathlib.Core.List.{List, [], _∷_, _++_, flatMap}
 use lib.ListN.{length}
 use lib.Dec.{ltb}
 use lib.Ieee
 use lib.Ieee.{Float}
 use Rattle.laws.specs.Any.{all}
+use Rattle.laws.specs.Truth.{both-true}
 use Rattle.float.specs.Ops.{_-ᶠ_, _/ᶠ_, _>ᶠ_, _≤ᶠ_, 0ᶠ, 2ᶠ}
 use Rattle.float.specs.Order.{min}
 use Rattle.glyphs.specs.Points.{vertices}
@@ -100,10 +101,6 @@ unfolding threeOf deepestsOf deepestFrom sound
 one-back Full l h = absurd (never h)
 one-back Nothing l h = rw no-clearance
 one-back (Found x y clearance) l h = rw h
-
-pub both-true : (a b : Bool) → (a && b) ≡ true → (a ≡ true) × (b ≡ true)
-both-true true b h = (refl, h)
-both-true false b h = absurd (never h)
 
 pub points-back : (ds : List Deepest) → all sound ds ≡ true → deepestsOf (allThree ds) ≡ ds
 unfolding all flatMap

@@ -12,6 +12,7 @@ use lib.Ieee
 use lib.Ieee.{Float, nan, inf, fin}
 use lib.Ieee.Bits.{is-true}
 use Rattle.laws.specs.Any.{all}
+use Rattle.laws.specs.Truth.{both-true}
 use Rattle.float.specs.Ops.{_>ᶠ_, 0ᶠ, ∞}
 use Rattle.float.specs.Order.{abs, max}
 use Rattle.rounding.specs.Signed.{Exact, nat, _≼_, _≺_, _≈_}
@@ -47,7 +48,6 @@ use Rattle.plan.specs.Left.{Left}
 use Rattle.plan.specs.Placing.{placeFor, placementFor, placedAt}
 use Rattle.plan.specs.Sized.{ceilingFor, sizingFor, sizeOf}
 use Rattle.plan.specs.Own.{foundOf, ownOf, Filled, handed-zones}
-use Rattle.plan.specs.Sound.{both-true}
 use Rattle.plan.specs.Packing.{packsAt, packing-own}
 use Rattle.plan.specs.Placements.{placedOf, place-own, placed-are}
 use Rattle.plan.specs.Made.{Roomy, ceiling-is, sizing-is}

@@ -1,7 +1,7 @@
 -- The other marks are those before mark i and those after it; marks too far away push nothing, so that those near enough may be gathered; and the order of an acceptance's tests does not matter.
 -- Rests on the definitions and the laws of `all`.
 use mathlib.Core.Path.{_≡_, refl, sym, ap, _∙_}
-use mathlib.Core.Bool.{Bool, true, false, not, cond, _&&_, _||_}
+use mathlib.Core.Bool.{Bool, true, false, not, cond, _&&_, and-assoc, or-true}
 use mathlib.Core.List.{List, [], _∷_, foldl}
 use Prim.Native.Nat.{ℕ, zero, suc, _+_, _<_}
 use native.Mathlib.Omega.{arith}
@@ -13,6 +13,7 @@ use lib.Ieee.{Float}
 use mir.Val.{boolByte}
 use borrow.Author.Tests.{eq-eqb, ne-eqb}
 use Rattle.laws.specs.Any.{all}
+use Rattle.laws.specs.Truth.{both-true}
 use Rattle.laws.specs.Blocks.{fold-next}
 use Rattle.float.specs.Ops.{_*ᶠ_, _<ᶠ_}
 use Rattle.glyphs.specs.declared.rect.Point.{Point}
@@ -28,18 +29,6 @@ use Rattle.relax.specs.declared.push.Force.{Force}
 use Rattle.relax.specs.declared.field.Field.{Field}
 use Rattle.relax.specs.declared.field.Acceptance.the-variants.{Clear, Refused}
 use Rattle.relax.specs.Field.{pushOf, pushes, clearOfOthers, accepts}
-
-regroup : (a b c : Bool) → a && (b && c) ≡ (a && b) && c
-regroup true b c = refl
-regroup false b c = refl
-
-both : (a b : Bool) → a && b ≡ true → (a ≡ true) × (b ≡ true)
-both true b h = (refl, h)
-both false b h = absurd (let z : _≡_ {A = ℕ} 0 1 = cc in omega arith)
-
-or-true : (a : Bool) → a || true ≡ true
-or-true true = refl
-or-true false = refl
 
 -- ---- the spacing test
 
@@ -57,7 +46,7 @@ module _ (x y least : Float) where
   clear-from zero j (q ∷ qs) h = rw (eq-eqb j (j + 0) (omega arith), clear-past (j + 0) (j + 1) qs (omega arith))
   clear-from (suc m) j (q ∷ qs) h =
       let e : j + suc m ≡ j + 1 + m = omega arith in
-      rw (ne-eqb j (j + suc m) (λ e. omega arith), e, clear-from m (j + 1) qs (omega arith)) (regroup (apart x y least q) _ _)
+      rw (ne-eqb j (j + suc m) (λ e. omega arith), e, clear-from m (j + 1) qs (omega arith)) (sym (and-assoc (apart x y least q) _ _))
 
 pub clear-others :
     (x y least : Float) (i : ℕ) (points : List Point) → i < length points
@@ -97,7 +86,7 @@ module _ (influence : Float) (p : Point) where
   unfolding all
   far-all [] f h = refl
   far-all (q ∷ qs) f h =
-      let e = both (apart (p .x) (p .y) (influence *ᶠ influence) q) (all (apart (p .x) (p .y) (influence *ᶠ influence)) qs) h in
+      let e = both-true (apart (p .x) (p .y) (influence *ᶠ influence) q) (all (apart (p .x) (p .y) (influence *ᶠ influence)) qs) h in
       rw (far q f (e .0)) (far-all qs f (e .1))
 
   -- a mark written behind the m of a list, and counted if it is near enough

@@ -2,11 +2,10 @@
 -- Rests on the laws that take a piece apart ring by ring.
 use Prim.Native.Nat.{_≤_, _-_, _+_}
 use mathlib.Core.Path.{_≡_, refl, sym}
-use mathlib.Core.Bool.{Bool, true, false, not, cond, _&&_}
+use mathlib.Core.Bool.{Bool, true, false, not, cond, _&&_, and-true}
 use native.Mathlib.Omega.{arith}
 use borrow.Author.Needs.{needs}
 use lib.ListN.{length, drop}
-use Rattle.laws.specs.Truth.{and-true}
 use Rattle.regions.specs.Ring.{sum, outer, holes, ringsFrom, pieceOf, rings-step, rings-end, sum-step, first-ring, first-sum}
 use Rattle.regions.specs.Clearance.{inAny, within}
 use Rattle.regions.specs.Four.{Which, at, told}
