@@ -1,5 +1,5 @@
--- The least of the squares in place of the least of the distances: definitions for the code, and the law that its root is the least distance.
--- Rests on the root's being monotone.
+-- The least of the squares in place of the least of the distances: definitions for the code. `Least.antt` has the law that its root is the least distance.
+-- Assumes nothing.
 use Prim.Native.Nat.{ℕ, zero, suc, _+_}
 use mathlib.Core.Path.{_≡_, refl}
 use mathlib.Core.Bool.{cond}
