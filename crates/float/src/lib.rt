@@ -3,8 +3,10 @@
 // The square root.
 mod roots;
 
+pub use roots::Two;
 pub use roots::hypot;
 pub use roots::root;
+pub use roots::two_roots;
 
 // The sign, and the lesser, the greater and the nearest of given values.
 mod order;

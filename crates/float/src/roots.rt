@@ -32,7 +32,7 @@ fn digit_root(m: u64) -> u64
 // A guess at √x from the bit pattern of x: 1 / √x from the pattern, as in the fast inverse square root of Quake III
 // Arena, and two steps of Newton's method, with the numbers that leave the least error, give d, to 21 digits. Then s
 // is x * d to 22 digits, so that `rest`, what x has above s * s, is exact, and rest / (s + √x), worked out by d and
-// `rest`, is what s lacks. Nothing is proved of the guess: `scaled_root` tests it. For a normal x below 2^1023 it is
+// `rest`, is what s lacks. Nothing is proved of the guess: `is_root` tests it. For a normal x below 2^1023 it is
 // the root but for some 3 in 10,000.
 fn root_guess(pattern: u64) -> f64
     requires { ⌜ pattern < 0x7ff0_0000_0000_0000 ⌝ }
@@ -87,26 +87,44 @@ fn is_nearest(m: u64, r: u64) -> bool
 
 // The `f64` nearest to √n of the least `f64`, 2^-1074, where n is m * 2^52 * 2^g: m has 53 digits, and the last
 // bit of g, where it is set, is moved into m, so that the root is √(m * 2^52) * 2^(g / 2). A pattern's fields are
-// the digits and, from bit 52 on, how far they are moved. The guess is returned where its digits are seen to be
-// the nearest: nothing that waits for the root waits for the test. For any other guess the digits are found.
-fn scaled_root(guess: f64, m: u64, g: u64) -> f64
+// the digits and, from bit 52 on, how far they are moved. The digits are found one at a time.
+fn scaled_root(m: u64, g: u64) -> f64
     requires { ⌜ 2 ^ 52 ≤ m ⌝ ∗ ⌜ m < 2 ^ 53 ⌝ ∗ ⌜ g < 3068 ⌝ }
     ensures { λ r. ⌜ r ≡ nearestRoot binary64 (m * 2 ^ 52 * 2 ^ g) ⌝ }
 {
+    f64::from_bits(g / 2 * 0x10_0000_0000_0000 + digit_root(m << (g % 2)))
+}
+
+// Whether a float with this pattern is seen to be that `f64`: its digits are the nearest.
+fn is_scaled_root(m: u64, g: u64, pattern: u64) -> bool
+    requires { ⌜ 2 ^ 52 ≤ m ⌝ ∗ ⌜ m < 2 ^ 53 ⌝ ∗ ⌜ g < 3068 ⌝ }
+    ensures { λ b. ⌜ (T b → ofBits binary64 pattern ≡ nearestRoot binary64 (m * 2 ^ 52 * 2 ^ g)) ⌝ }
+{
     let field = g / 2 * 0x10_0000_0000_0000;
-    let digits = m << (g % 2);
-    if guess > 0.0 {
-        let bits = f64::to_bits(guess);
-        if bits >= field {
-            let r = bits - field;
-            if r < 0x40_0000_0000_0000 {
-                if is_nearest(digits, r) {
-                    return guess;
-                }
-            }
-        }
+    if pattern < field {
+        return false;
     }
-    f64::from_bits(field + digit_root(digits))
+    let r = pattern - field;
+    if r >= 0x40_0000_0000_0000 {
+        return false;
+    }
+    is_nearest(m << (g % 2), r)
+}
+
+// Whether a guess is seen to be the root of a normal x above zero with the pattern `bits`. What waits for the root
+// can go on from the guess, and does not wait for this.
+fn is_root(bits: u64, guess: f64) -> bool
+    requires { ⌜ 2 ^ 52 ≤ bits ⌝ ∗ ⌜ bits < 0x7ff0_0000_0000_0000 ⌝ }
+    ensures { λ b. ⌜ (T b → guess ≡ rootOf binary64 (ofBits binary64 bits)) ⌝ }
+{
+    if guess > 0.0 {
+        return is_scaled_root(
+            bits % 0x10_0000_0000_0000 + 0x10_0000_0000_0000,
+            bits / 0x10_0000_0000_0000 + 1021,
+            f64::to_bits(guess),
+        );
+    }
+    false
 }
 
 // The root of a finite x above zero from its bit pattern. A pattern below 2^52 is a subnormal x: its digits are
@@ -117,14 +135,16 @@ fn root_of(bits: u64) -> f64
 {
     if bits < 0x10_0000_0000_0000 {
         let z = u64::leading_zeros(bits) - 11;
-        scaled_root(0.0, bits << z, (1022 - z) as u64)
-    } else {
-        scaled_root(
-            root_guess(bits),
-            bits % 0x10_0000_0000_0000 + 0x10_0000_0000_0000,
-            bits / 0x10_0000_0000_0000 + 1021,
-        )
+        return scaled_root(bits << z, (1022 - z) as u64);
     }
+    let guess = root_guess(bits);
+    if is_root(bits, guess) {
+        return guess;
+    }
+    scaled_root(
+        bits % 0x10_0000_0000_0000 + 0x10_0000_0000_0000,
+        bits / 0x10_0000_0000_0000 + 1021,
+    )
 }
 
 // `f64::sqrt`: the nearest `f64`, a NaN below zero and at a NaN, and a zero or the infinity itself.
@@ -150,4 +170,37 @@ pub fn hypot(a: f64, b: f64) -> f64
     ensures { λ r. ⌜ r ≡ hypot a b ⌝ }
 {
     root(a * a + b * b)
+}
+
+// A root of each of two floats.
+pub struct Two {
+    pub a: f64,
+    pub b: f64,
+}
+
+fn is_normal(bits: u64) -> bool
+    ensures { λ b. ⌜ (T b → (2 ^ 52 ≤ bits) × (bits < 0x7ff0_0000_0000_0000)) ⌝ }
+{
+    (bits >= 0x10_0000_0000_0000) & (bits < 0x7ff0_0000_0000_0000)
+}
+
+// Both roots. The guesses at them are worked out side by side.
+pub fn two_roots(x: f64, y: f64) -> Two
+    ensures { λ r. ⌜ (r .a ≡ sqrt x) × (r .b ≡ sqrt y) ⌝ }
+{
+    if (x > 0.0) & (y > 0.0) {
+        let p = f64::to_bits(x);
+        let q = f64::to_bits(y);
+        if is_normal(p) & is_normal(q) {
+            let a = root_guess(p);
+            let b = root_guess(q);
+            if is_root(p, a) & is_root(q, b) {
+                return Two { a, b };
+            }
+        }
+    }
+    Two {
+        a: root(x),
+        b: root(y),
+    }
 }

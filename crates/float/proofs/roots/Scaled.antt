@@ -5,8 +5,7 @@ use Prim.Native.Nat.{ℕ, _+_, _-_, _*_, _/_, _%_, _^_, _≤_, _<_}
 use native.Mathlib.Nat.{le-trans, le-of-eq, lt-of-le-of-lt, mul-le-mul-right, mul-lt-mul-of-pos-right, mul-assoc, mul-right-comm, mod-eq-of-lt, mul-le-mul-left, le-mul-of-pos-right, zero-lt-suc}
 use native.Mathlib.Omega.{arith}
 use lib.Pow.{pow-add, pow-pos, pow-lt, pow-mono}
-use lib.Dec.{T}
-use lib.Ieee.{Float, binary64, fits, ofBits, toBits}
+use lib.Ieee.{binary64, ofBits, toBits}
 use lib.Ieee.Bits.{ofBits-toBits}
 use Rattle.float.specs.Root.{nearestRoot, Near}
 use Rattle.float.specs.Laws.Fits.{nearestRoot-fits}
@@ -61,8 +60,8 @@ module _ (m g : ℕ) (least : 2 ^ 52 ≤ m) (most : m < 2 ^ 53) where
   pub from-digits : (r : ℕ) → g < 3068 → Near (m * 2 ^ (g % 2) % 2 ^ 64 * 2 ^ 52) r → ofBits binary64 (g / 2 * 2 ^ 52 + r) ≡ nearestRoot binary64 (m * 2 ^ 52 * 2 ^ g)
   from-digits r small n = ap (ofBits binary64) (scaled-any r small n) ∙ ofBits-toBits binary64 (nearestRoot binary64 (m * 2 ^ 52 * 2 ^ g)) (nearestRoot-fits binary64 (m * 2 ^ 52 * 2 ^ g))
 
-  -- a value whose pattern has them is it
-  pub from-value : (x : Float) → T (fits binary64 x) → g / 2 * 2 ^ 52 ≤ toBits binary64 x → g < 3068 → Near (m * 2 ^ (g % 2) % 2 ^ 64 * 2 ^ 52) (toBits binary64 x - g / 2 * 2 ^ 52) → x ≡ nearestRoot binary64 (m * 2 ^ 52 * 2 ^ g)
-  from-value x f l small n =
-      let e : toBits binary64 x ≡ g / 2 * 2 ^ 52 + (toBits binary64 x - g / 2 * 2 ^ 52) = omega arith in
-      sym (ofBits-toBits binary64 x f) ∙ ap (ofBits binary64) e ∙ from-digits (toBits binary64 x - g / 2 * 2 ^ 52) small n
+  -- and from a pattern that has them
+  pub from-pattern : (b : ℕ) → g / 2 * 2 ^ 52 ≤ b → g < 3068 → Near (m * 2 ^ (g % 2) % 2 ^ 64 * 2 ^ 52) (b - g / 2 * 2 ^ 52) → ofBits binary64 b ≡ nearestRoot binary64 (m * 2 ^ 52 * 2 ^ g)
+  from-pattern b l small n =
+      let e : b ≡ g / 2 * 2 ^ 52 + (b - g / 2 * 2 ^ 52) = omega arith in
+      ap (ofBits binary64) e ∙ from-digits (b - g / 2 * 2 ^ 52) small n

@@ -1,5 +1,5 @@
 -- `float::root_of` meets its contract: a pattern's fields are the digits and their scale.
--- Rests on `Value.antt` and the contract of `scaled_root`.
+-- Rests on `Value.antt` and the contracts of `is_root` and `scaled_root`.
 use mathlib.Core.Path.{_≡_, sym, ap, _∙_}
 use Prim.Native.Nat.{ℕ, _*_, _-_, _%_, _^_, _<_}
 use native.Mathlib.Nat.{mod-eq-of-lt}
@@ -8,6 +8,7 @@ use lib.Count.{leadingZeros}
 use lib.Ieee.{binary64}
 use Rattle.float.specs.Root.{nearestRoot}
 use borrow.Author.Needs.{needs}
+use Rattle.laws.specs.Truth.{yes}
 use Rattle.float.proofs.roots.Value.{normal-root, subnormal-root, moved}
 use Rattle.float.proofs.roots.root_of.Statement.{statement}
 use Rattle.float.proofs.roots.root_of.Tie as tie
@@ -34,18 +35,6 @@ cast-scaled-root-2 c = search needs
 scaled-root-requires : tie.Need-scaled-root-requires
 scaled-root-requires c κs = omega (arith, moved (c .before .args .bits) (c .before .pre .0) (c .if1 .taken))
 
-root-guess-requires : tie.Need-root-guess-requires
-root-guess-requires c κs = search needs
-
-add-scaled-root : tie.Need-add-scaled-root
-add-scaled-root c = search needs
-
-add-scaled-root-2 : tie.Need-add-scaled-root-2
-add-scaled-root-2 c = search needs
-
-scaled-root-requires-2 : tie.Need-scaled-root-requires-2
-scaled-root-requires-2 c κs = search needs
-
 returns : tie.Need-returns
 returns c =
     let s = c .before .before in
@@ -54,10 +43,16 @@ returns c =
     ∙ ap (λ (n : ℕ). nearestRoot binary64 (n * 2 ^ 52 * 2 ^ (1022 - (leadingZeros 64 (s .args .bits) - 11)))) (kept (s .args .bits * 2 ^ (leadingZeros 64 (s .args .bits) - 11)) (f .3))
     ∙ sym (subnormal-root (s .args .bits) (leadingZeros 64 (s .args .bits) - 11) (s .pre .0) (c .before .if1 .taken) (f .1))
 
+is-root-requires : tie.Need-is-root-requires
+is-root-requires c κs = (c .before .if1 .left, c .before .before .pre .1)
+
 returns-2 : tie.Need-returns-2
-returns-2 c =
-    let s = c .before .before .before in
-    c .scaled-root2 .ensures ∙ sym (normal-root (s .args .bits) (c .before .before .if1 .left) (s .pre .1))
+returns-2 c = c .before .is-root .ensures (yes (c .if2 .taken))
+
+returns-3 : tie.Need-returns-3
+returns-3 c =
+    let s = c .before .before .before .before .before in
+    c .scaled-root2 .ensures ∙ sym (normal-root (s .args .bits) (c .before .before .before .before .if1 .left) (s .pre .1))
 
 pub root-of-spec : {M : Type 1} → statement M
 root-of-spec =
@@ -69,9 +64,11 @@ root-of-spec =
     sub-scaled-root
     cast-scaled-root-2
     scaled-root-requires
-    root-guess-requires
-    add-scaled-root
-    add-scaled-root-2
-    scaled-root-requires-2
     returns
-    returns-2)
+    (λ c κs. search needs)
+    is-root-requires
+    returns-2
+    (λ c. search needs)
+    (λ c. search needs)
+    (λ c κs. search needs)
+    returns-3)
