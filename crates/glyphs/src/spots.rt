@@ -66,7 +66,7 @@ pub fn apart_from_eight(x: f64, y: f64, least: f64, spots: &[f64], k: usize) -> 
     ok
 }
 
-// The same for all marks.
+// The same for all marks: which one is too near nobody can guess, so that there is a branch for each eight alone.
 pub fn apart_from_all(x: f64, y: f64, least: f64, spots: &[f64]) -> bool
     ensures { λ r. ⌜ r ≡ all (apart x y least) (spotsOf (now (spots .entry))) ⌝ }
 {
@@ -78,11 +78,10 @@ pub fn apart_from_all(x: f64, y: f64, least: f64, spots: &[f64]) -> bool
         }
         k += 8;
     }
+    let mut ok = true;
     while k < n {
-        if !apart(x, y, least, spot(spots, k)) {
-            return false;
-        }
+        ok = ok & apart(x, y, least, spot(spots, k));
         k += 1;
     }
-    true
+    ok
 }

@@ -3,7 +3,7 @@ ghost use mathlib.Core.Path.{_≡_};
 ghost use Prim.Native.Nat.{_-_, _*_, _/_, _<_, _≤_};
 ghost use lib.ListN.{length};
 ghost use Rattle.regions.specs.Ring.{sum, pieceOf};
-ghost use Rattle.regions.specs.Clearance.{along, edgeSquare, squareAt, closer, within, minDistToRings, signedClearance};
+ghost use Rattle.regions.specs.Clearance.{along, edgeSquare, squareAt, closer, within, signedClearance};
 ghost use Rattle.regions.specs.Squares.{leastOfRing, leastOfRings, leastFrom};
 use crate::inside::point_in_polygon;
 use crate::ring::after;
@@ -118,21 +118,17 @@ pub fn rings_square(px: f64, py: f64, sizes: &[usize], coords: &[f64]) -> f64
     best
 }
 
-// The least distance from (px, py) to an edge of the rings.
-pub fn min_dist_to_rings(px: f64, py: f64, sizes: &[usize], coords: &[f64]) -> f64
-    requires { ⌜ sum (now sizes) * 2 ≤ length (now coords) ⌝ }
-    ensures { λ r. ⌜ r ≡ minDistToRings px py (pieceOf (now (sizes .entry)) (now (coords .entry))) ⌝ }
-{
-    float::root(rings_square(px, py, sizes, coords))
-}
-
-// Whether (x, y) is inside the outer ring and no hole.
+// Whether (x, y) is inside the outer ring and no hole. Without holes there is no branch on the answer.
 pub fn inside_piece(x: f64, y: f64, sizes: &[usize], coords: &[f64]) -> bool
     requires { ⌜ (0 < length (now sizes)) × (sum (now sizes) * 2 ≤ length (now coords)) ⌝ }
     ensures { λ r. ⌜ r ≡ within x y (pieceOf (now (sizes .entry)) (now (coords .entry))) ⌝ }
 {
     let mut at = sizes[0];
-    if !point_in_polygon(x, y, ring_at(coords, 0, at)) {
+    let inside = point_in_polygon(x, y, ring_at(coords, 0, at));
+    if sizes.len() == 1 {
+        return inside;
+    }
+    if !inside {
         return false;
     }
     let mut k = 1;
@@ -147,10 +143,12 @@ pub fn inside_piece(x: f64, y: f64, sizes: &[usize], coords: &[f64]) -> bool
     true
 }
 
+// The inside test stands before the root: nothing in it waits for the distance.
 pub fn signed_clearance(px: f64, py: f64, sizes: &[usize], coords: &[f64]) -> f64
     requires { ⌜ (0 < length (now sizes)) × (sum (now sizes) * 2 ≤ length (now coords)) ⌝ }
     ensures { λ r. ⌜ r ≡ signedClearance px py (pieceOf (now (sizes .entry)) (now (coords .entry))) ⌝ }
 {
-    let dist = min_dist_to_rings(px, py, sizes, coords);
-    float::negate_unless(dist, inside_piece(px, py, sizes, coords))
+    let square = rings_square(px, py, sizes, coords);
+    let inside = inside_piece(px, py, sizes, coords);
+    float::negate_unless(float::root(square), inside)
 }
