@@ -19,7 +19,6 @@ use crate::seeds::seed;
 use glyphs::bounds::Extents;
 use glyphs::bounds::ring_extents;
 use regions::clearance::signed_clearance;
-use regions::four::Four;
 use regions::four::four_clearances;
 use regions::ring::ring_at;
 
@@ -103,19 +102,18 @@ fn push_four(
     let right = cell.x + nh;
     let low = cell.y - nh;
     let high = cell.y + nh;
-    let xs = Four {
-        a: left,
-        b: right,
-        c: left,
-        d: right,
-    };
-    let ys = Four {
-        a: low,
-        b: low,
-        c: high,
-        d: high,
-    };
-    let ds = four_clearances(xs, ys, sizes, coords);
+    let ds = four_clearances(
+        left,
+        low,
+        right,
+        low,
+        left,
+        high,
+        right,
+        high,
+        sizes,
+        coords,
+    );
     let a = Cell {
         x: left,
         y: low,

@@ -11,7 +11,6 @@ ghost use Rattle.regions.specs.Clearance.{signedClearance};
 ghost use Rattle.relax.specs.Scatter.{source, relaxScatter};
 use deepest::search::Deepest;
 use glyphs::bounds::Bounds;
-use regions::four::Four;
 
 mod packers;
 
@@ -32,19 +31,18 @@ pub extern "C" fn probe_four_clearances(
 )
     requires { ⌜ (0 < length (now sizes)) × (sum (now sizes) * 2 ≤ length (now coords)) ⌝ }
 {
-    let xs = Four {
-        a: places[0],
-        b: places[2],
-        c: places[4],
-        d: places[6],
-    };
-    let ys = Four {
-        a: places[1],
-        b: places[3],
-        c: places[5],
-        d: places[7],
-    };
-    let four = regions::four::four_clearances(xs, ys, sizes, coords);
+    let four = regions::four::four_clearances(
+        places[0],
+        places[1],
+        places[2],
+        places[3],
+        places[4],
+        places[5],
+        places[6],
+        places[7],
+        sizes,
+        coords,
+    );
     found[0] = four.a;
     found[1] = four.b;
     found[2] = four.c;

@@ -11,6 +11,9 @@ pub data Which : Type 0 where
   third : Which
   fourth : Which
 
+abbrev pub four : Float → Float → Float → Float → Four
+four a b c d = record { a = a; b = b; c = c; d = d }
+
 unfoldable pub at : Which → Four → Float
 at first f = f .a
 at second f = f .b
@@ -23,7 +26,7 @@ told second f = f .b
 told third f = f .c
 told fourth f = f .d
 
-pub all-at : (k : Which) (x : Float) → at k (record { a = x; b = x; c = x; d = x }) ≡ x
+pub all-at : (k : Which) (x : Float) → at k (four x x x x) ≡ x
 unfolding at
 all-at first x = refl
 all-at second x = refl

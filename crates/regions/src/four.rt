@@ -1,7 +1,7 @@
 // regions.rs, `signed_clearance` of four places at once: each edge is read once, and the four are worked out side by
 // side.
 ghost use mathlib.Core.Path.{_≡_};
-ghost use mathlib.Core.Bool.{true, cond, not, _&&_};
+ghost use mathlib.Core.Bool.{true, cond, _&&_, Bool·beq};
 ghost use Prim.Native.Nat.{_*_, _<_, _≤_};
 ghost use lib.ListN.{length};
 ghost use lib.Ieee.{neg};
@@ -11,7 +11,7 @@ ghost use Rattle.regions.specs.Ring.{sum, pieceOf};
 ghost use Rattle.regions.specs.Inside.{intersect, flip, pointInPolygon};
 ghost use Rattle.regions.specs.Clearance.{edgeSquare, closer, within, signedClearance};
 ghost use Rattle.regions.specs.Squares.{leastOfRing, leastOfRings};
-ghost use Rattle.regions.specs.Four.{Which, at, told};
+ghost use Rattle.regions.specs.Four.{Which, four, at, told};
 use crate::clearance::closer_edge;
 use crate::inside::turned_by;
 use crate::ring::after;
@@ -153,14 +153,15 @@ fn in_polygon(xs: Four, ys: Four, ring: &[f64]) -> Flags
     inside
 }
 
-fn without(inside: Flags, hole: Flags) -> Flags
-    ensures { λ r. ⌜ ((k : Which) → told k r ≡ told k inside && not (told k hole)) ⌝ }
+// A flag is kept where the outer ring has the place, or a hole has it not.
+fn kept(inside: Flags, ring: Flags, outer: bool) -> Flags
+    ensures { λ r. ⌜ ((k : Which) → told k r ≡ told k inside && Bool·beq (told k ring) outer) ⌝ }
 {
     Flags {
-        a: inside.a & !hole.a,
-        b: inside.b & !hole.b,
-        c: inside.c & !hole.c,
-        d: inside.d & !hole.d,
+        a: inside.a & (ring.a == outer),
+        b: inside.b & (ring.b == outer),
+        c: inside.c & (ring.c == outer),
+        d: inside.d & (ring.d == outer),
     }
 }
 
@@ -169,12 +170,17 @@ fn in_piece(xs: Four, ys: Four, sizes: &[usize], coords: &[f64]) -> Flags
     requires { ⌜ (0 < length (now sizes)) × (sum (now sizes) * 2 ≤ length (now coords)) ⌝ }
     ensures { λ r. ⌜ ((k : Which) → told k r ≡ within (at k xs) (at k ys) (pieceOf (now (sizes .entry)) (now (coords .entry)))) ⌝ }
 {
-    let mut from = sizes[0];
-    let mut inside = in_polygon(xs, ys, ring_at(coords, 0, from));
-    let mut i = 1;
+    let mut inside = Flags {
+        a: true,
+        b: true,
+        c: true,
+        d: true,
+    };
+    let mut from = 0;
+    let mut i = 0;
     while i < sizes.len() {
         let n = sizes[i];
-        inside = without(inside, in_polygon(xs, ys, ring_at(coords, from, n)));
+        inside = kept(inside, in_polygon(xs, ys, ring_at(coords, from, n)), i == 0);
         from += n;
         i += 1;
     }
@@ -188,10 +194,33 @@ fn signed(square: f64, inside: bool) -> f64
     float::negate_unless(float::root(square), inside)
 }
 
-pub fn four_clearances(xs: Four, ys: Four, sizes: &[usize], coords: &[f64]) -> Four
+pub fn four_clearances(
+    ax: f64,
+    ay: f64,
+    bx: f64,
+    by: f64,
+    cx: f64,
+    cy: f64,
+    dx: f64,
+    dy: f64,
+    sizes: &[usize],
+    coords: &[f64],
+) -> Four
     requires { ⌜ (0 < length (now sizes)) × (sum (now sizes) * 2 ≤ length (now coords)) ⌝ }
-    ensures { λ r. ⌜ ((k : Which) → at k r ≡ signedClearance (at k xs) (at k ys) (pieceOf (now (sizes .entry)) (now (coords .entry)))) ⌝ }
+    ensures { λ r. ⌜ ((k : Which) → at k r ≡ signedClearance (at k (four ax bx cx dx)) (at k (four ay by cy dy)) (pieceOf (now (sizes .entry)) (now (coords .entry)))) ⌝ }
 {
+    let xs = Four {
+        a: ax,
+        b: bx,
+        c: cx,
+        d: dx,
+    };
+    let ys = Four {
+        a: ay,
+        b: by,
+        c: cy,
+        d: dy,
+    };
     let squares = rings_squares(xs, ys, sizes, coords);
     let inside = in_piece(xs, ys, sizes, coords);
     Four {

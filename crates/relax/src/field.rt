@@ -17,7 +17,6 @@ use glyphs::spots::apart_from_all;
 use glyphs::spots::spot;
 use glyphs::spots::spots_after;
 use glyphs::spots::spots_before;
-use regions::four::Four;
 use regions::four::four_clearances;
 use regions::margin::Margin;
 use regions::pillars::clears_obstacles;
@@ -74,19 +73,18 @@ impl Field {
         ensures { λ r. ⌜ r ≡ clearanceGradient self (pieceOf (now (sizes .entry)) (now (coords .entry))) p ⌝ }
     {
         let h = self.probe;
-        let xs = Four {
-            a: p.x + h,
-            b: p.x - h,
-            c: p.x,
-            d: p.x,
-        };
-        let ys = Four {
-            a: p.y,
-            b: p.y,
-            c: p.y + h,
-            d: p.y - h,
-        };
-        let around = four_clearances(xs, ys, sizes, coords);
+        let around = four_clearances(
+            p.x + h,
+            p.y,
+            p.x - h,
+            p.y,
+            p.x,
+            p.y + h,
+            p.x,
+            p.y - h,
+            sizes,
+            coords,
+        );
         let gx = around.a - around.b;
         let gy = around.c - around.d;
         let norm = float::hypot(gx, gy);
