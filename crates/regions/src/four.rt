@@ -1,12 +1,10 @@
 // regions.rs, `signed_clearance` of four places at once: each edge is read once, and the four are worked out side by
 // side.
 ghost use mathlib.Core.Path.{_≡_};
-ghost use mathlib.Core.Bool.{true, cond, _&&_, Bool·beq};
+ghost use mathlib.Core.Bool.{true, _&&_, Bool·beq};
 ghost use Prim.Native.Nat.{_*_, _<_, _≤_};
 ghost use lib.ListN.{length};
-ghost use lib.Ieee.{neg};
 ghost use Rattle.float.specs.Ops.{_>ᶠ_};
-ghost use Rattle.float.specs.Order.{sqrt};
 ghost use Rattle.regions.specs.Ring.{sum, pieceOf};
 ghost use Rattle.regions.specs.Inside.{intersect, flip, pointInPolygon};
 ghost use Rattle.regions.specs.Clearance.{edgeSquare, closer, within, signedClearance};
@@ -187,13 +185,6 @@ fn in_piece(xs: Four, ys: Four, sizes: &[usize], coords: &[f64]) -> Flags
     inside
 }
 
-// The root of the least square, with its sign by the flag.
-fn signed(square: f64, inside: bool) -> f64
-    ensures { λ r. ⌜ r ≡ cond inside (sqrt square) (neg (sqrt square)) ⌝ }
-{
-    float::negate_unless(float::root(square), inside)
-}
-
 pub fn four_clearances(
     ax: f64,
     ay: f64,
@@ -223,10 +214,12 @@ pub fn four_clearances(
     };
     let squares = rings_squares(xs, ys, sizes, coords);
     let inside = in_piece(xs, ys, sizes, coords);
+    let first = float::two_roots(squares.a, squares.b);
+    let second = float::two_roots(squares.c, squares.d);
     Four {
-        a: signed(squares.a, inside.a),
-        b: signed(squares.b, inside.b),
-        c: signed(squares.c, inside.c),
-        d: signed(squares.d, inside.d),
+        a: float::negate_unless(first.a, inside.a),
+        b: float::negate_unless(first.b, inside.b),
+        c: float::negate_unless(second.a, inside.c),
+        d: float::negate_unless(second.b, inside.d),
     }
 }

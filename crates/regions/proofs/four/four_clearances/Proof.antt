@@ -14,28 +14,32 @@ use Rattle.regions.proofs.four.four_clearances.Statement.{statement}
 use Rattle.regions.proofs.four.four_clearances.Tie as tie
 
 whole :
-    (x y square : Float) (inside : Bool) (piece : Piece) {r : Float} → square ≡ leastOfRings x y piece → inside ≡ within x y piece
-    → r ≡ cond inside (sqrt square) (neg (sqrt square)) → r ≡ signedClearance x y piece
+    (x y square root : Float) (inside : Bool) (piece : Piece) {r : Float} → square ≡ leastOfRings x y piece → root ≡ sqrt square
+    → inside ≡ within x y piece → r ≡ cond inside root (neg root) → r ≡ signedClearance x y piece
 unfolding signedClearance
-whole x y square inside piece e f g = rw (g, e, f, least-root)
+whole x y square root inside piece e f g h = rw (h, f, e, g, least-root)
 
 returns : tie.Need-returns
 unfolding at told
 returns c first =
-    let s = c .before .before .before in
-    whole _ _ _ _ _ (s .before .before .rings-squares .ensures first) (s .before .in-piece .ensures first) (s .signed .ensures)
+    let p = c .before .before .before .before .before in
+    whole _ _ _ _ _ _ (p .before .before .rings-squares .ensures first) (p .two-roots .ensures .0) (p .before .in-piece .ensures first) (c .before .before .before .negate-unless .ensures)
 returns c second =
-    let s = c .before .before in
-    whole _ _ _ _ _ (s .before .before .before .rings-squares .ensures second) (s .before .before .in-piece .ensures second) (s .signed2 .ensures)
+    let p = c .before .before .before .before .before in
+    whole _ _ _ _ _ _ (p .before .before .rings-squares .ensures second) (p .two-roots .ensures .1) (p .before .in-piece .ensures second) (c .before .before .negate-unless2 .ensures)
 returns c third =
-    let s = c .before in
-    whole _ _ _ _ _ (s .before .before .before .before .rings-squares .ensures third) (s .before .before .before .in-piece .ensures third) (s .signed3 .ensures)
-returns c fourth = whole _ _ _ _ _ (c .before .before .before .before .before .rings-squares .ensures fourth) (c .before .before .before .before .in-piece .ensures fourth) (c .signed4 .ensures)
+    let q = c .before .before .before .before in
+    whole _ _ _ _ _ _ (q .before .before .before .rings-squares .ensures third) (q .two-roots2 .ensures .0) (q .before .before .in-piece .ensures third) (c .before .negate-unless3 .ensures)
+returns c fourth =
+    let q = c .before .before .before .before in
+    whole _ _ _ _ _ _ (q .before .before .before .rings-squares .ensures fourth) (q .two-roots2 .ensures .1) (q .before .before .in-piece .ensures fourth) (c .negate-unless4 .ensures)
 
 pub four-clearances-spec : {M : Type 1} → statement M
 four-clearances-spec =
     tie.close
     (tie.spec
+    (λ c κs. search needs)
+    (λ c κs. search needs)
     (λ c κs. search needs)
     (λ c κs. search needs)
     (λ c κs. search needs)
