@@ -1,7 +1,7 @@
 -- The other marks are those before mark i and those after it; marks too far away push nothing, so that those near enough may be gathered; and the order of an acceptance's tests does not matter.
 -- Rests on the definitions and the laws of `all`.
 use mathlib.Core.Path.{_≡_, refl, sym, ap, _∙_}
-use mathlib.Core.Bool.{Bool, true, false, not, cond, _&&_, and-assoc, or-true}
+use mathlib.Core.Bool.{Bool, true, false, not, cond, _&&_, _||_, and-assoc, or-true}
 use mathlib.Core.List.{List, [], _∷_, foldl}
 use Prim.Native.Nat.{ℕ, zero, suc, _+_, _<_}
 use native.Mathlib.Omega.{arith}
@@ -11,11 +11,12 @@ use lib.ListN.{length, take, drop, set, length-set}
 use lib.Seq.{take-set-le, getD-set-same}
 use lib.Ieee.{Float}
 use mir.Val.{boolByte}
-use borrow.Author.Tests.{eq-eqb, ne-eqb}
+use borrow.Author.Tests.{eq-eqb, ne-eqb, not-true, not-false}
 use Rattle.laws.specs.Any.{all}
 use Rattle.laws.specs.Truth.{both-true}
 use Rattle.laws.specs.Blocks.{fold-next}
-use Rattle.float.specs.Ops.{_*ᶠ_, _<ᶠ_}
+use Rattle.float.specs.Ops.{_+ᶠ_, _-ᶠ_, _*ᶠ_, _/ᶠ_, _<ᶠ_, _≤ᶠ_, _≥ᶠ_, 0ᶠ}
+use Rattle.float.specs.Order.{sqrt}
 use Rattle.glyphs.specs.declared.rect.Point.{Point}
 use Rattle.glyphs.specs.declared.rect.Rectangle.{Rectangle}
 use Rattle.glyphs.specs.Rect.{clearOfObstacles}
@@ -55,6 +56,16 @@ clear-others x y least i points h = ap (λ (k : ℕ). clearOfOthers x y least k 
 
 -- ---- the pushes
 
+-- a push in parts, for the code: the square of the distance, and whether it is one at which q pushes
+abbrev pub squareBetween : Point → Point → Float
+squareBetween p q =
+    let dx = p .x -ᶠ q .x in
+    let dy = p .y -ᶠ q .y in
+    dx *ᶠ dx +ᶠ dy *ᶠ dy
+
+abbrev pub reaches : Float → Float → Bool
+reaches influence d2 = not (d2 ≤ᶠ 0ᶠ || d2 ≥ᶠ influence *ᶠ influence)
+
 module _ (influence : Float) (p : Point) where
   push-past : (i j : ℕ) (qs : List Point) (f : Force) → i < j → pushes influence i p j qs f ≡ foldl (pushOf influence p) f qs
   unfolding pushes
@@ -76,6 +87,21 @@ module _ (influence : Float) (p : Point) where
       → pushes influence i p 0 points f
       ≡ foldl (pushOf influence p) (foldl (pushOf influence p) f (take i points)) (drop (i + 1) points)
   push-others i points f h = ap (λ (k : ℕ). pushes influence k p 0 points f) (sym (zero-add i)) ∙ push-from i 0 points f h ∙ rw add-one
+
+  pub reached :
+      (f : Force) (q : Point) (d : Float) → reaches influence (squareBetween p q) ≡ true → d ≡ sqrt (squareBetween p q)
+      → let w = (influence -ᶠ d) /ᶠ influence in
+      record { x = f .x +ᶠ w *ᶠ (p .x -ᶠ q .x) /ᶠ d; y = f .y +ᶠ w *ᶠ (p .y -ᶠ q .y) /ᶠ d } ≡ pushOf influence p f q
+  unfolding pushOf
+  reached f q d h e =
+      let d2 = squareBetween p q in
+      rw (e, not-true (d2 ≤ᶠ 0ᶠ || d2 ≥ᶠ influence *ᶠ influence) h)
+
+  pub unreached : (f : Force) (q : Point) → reaches influence (squareBetween p q) ≡ false → f ≡ pushOf influence p f q
+  unfolding pushOf
+  unreached f q h =
+      let d2 = squareBetween p q in
+      rw (not-false (d2 ≤ᶠ 0ᶠ || d2 ≥ᶠ influence *ᶠ influence) h)
 
   far : (q : Point) (f : Force) → apart (p .x) (p .y) (influence *ᶠ influence) q ≡ true → pushOf influence p f q ≡ f
   unfolding apart pushOf

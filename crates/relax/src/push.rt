@@ -1,10 +1,13 @@
 // relax.rs, `force_on`: the pushes of the neighbours.
 ghost use mathlib.Core.Path.{_≡_};
+ghost use mathlib.Core.Bool.{true};
 ghost use mathlib.Core.List.{foldl};
 ghost use Prim.Native.Nat.{_+_, _/_, _≤_, _<_};
 ghost use lib.ListN.{length, take, drop};
 ghost use Rattle.glyphs.specs.Spots.{spotsOf};
+ghost use Rattle.float.specs.Order.{sqrt};
 ghost use Rattle.relax.specs.Field.{at, noForce, pushOf, pushes};
+ghost use Rattle.relax.specs.Others.{squareBetween, reaches};
 use glyphs::rect::Point;
 use glyphs::spots::apart;
 use glyphs::spots::apart_from_eight;
@@ -19,22 +22,57 @@ pub struct Force {
     pub y: f64,
 }
 
+// The square of the distance between two marks.
+fn square_between(p: Point, q: Point) -> f64
+    ensures { λ r. ⌜ r ≡ squareBetween p q ⌝ }
+{
+    let dx = p.x - q.x;
+    let dy = p.y - q.y;
+    dx * dx + dy * dy
+}
+
+// Whether a neighbour pushes, by the square of its distance.
+fn reaches(influence: f64, d2: f64) -> bool
+    ensures { λ r. ⌜ r ≡ reaches influence d2 ⌝ }
+{
+    !((d2 <= 0.0) | (d2 >= influence * influence))
+}
+
+// The push of the neighbour q, which is at the distance d, added to the push so far.
+fn pushed(influence: f64, p: Point, f: Force, q: Point, d: f64) -> Force
+    requires { ⌜ (reaches influence (squareBetween p q) ≡ true) × (d ≡ sqrt (squareBetween p q)) ⌝ }
+    ensures { λ r. ⌜ r ≡ pushOf influence p f q ⌝ }
+{
+    let w = (influence - d) / influence;
+    Force {
+        x: f.x + w * (p.x - q.x) / d,
+        y: f.y + w * (p.y - q.y) / d,
+    }
+}
+
 // The push of the neighbour q on p, added to the push so far.
 fn push(influence: f64, p: Point, f: Force, q: Point) -> Force
     ensures { λ r. ⌜ r ≡ pushOf influence p f q ⌝ }
 {
-    let dx = p.x - q.x;
-    let dy = p.y - q.y;
-    let d2 = dx * dx + dy * dy;
-    if (d2 <= 0.0) | (d2 >= influence * influence) {
-        return f;
+    let d2 = square_between(p, q);
+    if reaches(influence, d2) {
+        return pushed(influence, p, f, q, float::root(d2));
     }
-    let d = float::root(d2);
-    let w = (influence - d) / influence;
-    Force {
-        x: f.x + w * dx / d,
-        y: f.y + w * dy / d,
+    f
+}
+
+// The pushes of q and, after it, of r. Where both push their roots are worked out side by side.
+fn push_two(influence: f64, p: Point, f: Force, q: Point, r: Point) -> Force
+    ensures { λ g. ⌜ g ≡ pushOf influence p (pushOf influence p f q) r ⌝ }
+{
+    let d2 = square_between(p, q);
+    let e2 = square_between(p, r);
+    if reaches(influence, d2) & reaches(influence, e2) {
+        let d = float::two_roots(d2, e2);
+        let first = pushed(influence, p, f, q, d.a);
+        return pushed(influence, p, first, r, d.b);
     }
+    push(influence, p, push(influence, p, f, q), r)
 }
 
 // The pushes of the eight marks from mark `k` on. Mostly all are too far away.
@@ -48,8 +86,8 @@ fn push_eight(influence: f64, p: Point, start: Force, spots: &[f64], k: usize) -
     let mut f = start;
     let mut j = 0;
     while j < 8 {
-        f = push(influence, p, f, spot(spots, k + j));
-        j += 1;
+        f = push_two(influence, p, f, spot(spots, k + j), spot(spots, k + j + 1));
+        j += 2;
     }
     f
 }
@@ -65,9 +103,12 @@ fn push_all(influence: f64, p: Point, start: Force, spots: &[f64]) -> Force
         f = push_eight(influence, p, f, spots, k);
         k += 8;
     }
-    while k < n {
-        f = push(influence, p, f, spot(spots, k));
-        k += 1;
+    while n - k >= 2 {
+        f = push_two(influence, p, f, spot(spots, k), spot(spots, k + 1));
+        k += 2;
+    }
+    if k < n {
+        return push(influence, p, f, spot(spots, k));
     }
     f
 }

@@ -2,13 +2,15 @@
 -- Rests on the laws of a fold over a block, over one element and over none.
 use mathlib.Core.Path.{_≡_, refl, sym, _∙_}
 use mathlib.Core.List.{foldl}
-use Prim.Native.Nat.{_≤_, _<_, _-_, _/_}
+use Prim.Native.Nat.{_+_, _≤_, _<_, _-_, _/_}
 use native.Mathlib.Omega.{arith}
 use lib.ListN.{length, drop}
 use borrow.Author.Needs.{needs}
 use Rattle.laws.specs.Folds.{fold-step, fold-end}
 use Rattle.laws.specs.Blocks.{fold-block}
+use Rattle.glyphs.specs.declared.rect.Point.{Point}
 use Rattle.glyphs.specs.Spots.{spotsOf, spots-at, length-spots}
+use Rattle.relax.specs.declared.push.Force.{Force}
 use Rattle.relax.specs.Field.{pushOf}
 use Rattle.relax.proofs.push.push_all.Statement.{statement}
 use Rattle.relax.proofs.push.push_all.Tie as tie
@@ -45,25 +47,46 @@ loop-again c =
 
 loop2-again : tie.Need-loop2-again Inv-loop μ-loop Inv-loop2 μ-loop2
 loop2-again c =
-    let l = c .before .before .before .loop2 in
-    let a = c .before .before .before .before .before .before .before .args in
+    let l = c .before .before .before .before .loop2 in
+    let a = c .before .before .before .before .before .before .before .before .args in
     let s = spotsOf (a .spots .now) in
-    let q = c .before .spot in
-    let h : l .k < length s = simp length-spots (omega arith) in (
+    let g : Force → Point → Force = pushOf (a .influence) (a .p) in
+    let q = c .before .before .spot in
+    let r = c .before .spot2 in
+    let h : l .k + 1 < length s = simp length-spots (omega arith) in
+    let e : l .k + 1 + 1 ≡ l .k + 2 = omega arith in (
       search needs,
       search needs,
       l .inv .2
-          ∙ fold-step (pushOf (a .influence) (a .p)) (l .f) s (l .k) (q .result) h
-          ∙ rw (spots-at (a .spots .now) (l .k) (q .result) (omega arith), ← q .ensures, c .push .ensures),
+          ∙ fold-step g (l .f) s (l .k) (q .result) (omega (arith, h))
+          ∙ fold-step g _ s (l .k + 1) (r .result) h
+          ∙ rw (spots-at (a .spots .now) (l .k) (q .result) (omega arith), spots-at (a .spots .now) (l .k + 1) (r .result) (omega arith), ← q .ensures, ← r .ensures, c .push-two .ensures, e),
     )
 
+-- the last of an odd number
 returns : tie.Need-returns Inv-loop μ-loop Inv-loop2 μ-loop2
 returns c =
-    let l = c .before .loop2 in
-    let a = c .before .before .before .before .before .args in
+    let l = c .before .before .before .before .loop2 in
+    let a = c .before .before .before .before .before .before .before .before .args in
+    let s = spotsOf (a .spots .now) in
+    let g : Force → Point → Force = pushOf (a .influence) (a .p) in
+    let q = c .before .spot3 in
+    let h : l .k < length s = simp length-spots (omega arith) in
+    let end : length s ≤ l .k + 1 = simp length-spots (omega arith) in
+    sym
+    (c .before .before .before .before .before .before .loop .inv .2
+    ∙ l .inv .2
+    ∙ fold-step g (l .f) s (l .k) (q .result) h
+    ∙ fold-end g _ s (l .k + 1) end
+    ∙ rw (spots-at (a .spots .now) (l .k) (q .result) (omega arith), ← q .ensures, c .push .ensures))
+
+returns-2 : tie.Need-returns-2 Inv-loop μ-loop Inv-loop2 μ-loop2
+returns-2 c =
+    let l = c .before .before .loop2 in
+    let a = c .before .before .before .before .before .before .args in
     let s = spotsOf (a .spots .now) in
     let h : length s ≤ l .k = simp length-spots (omega arith) in
-    sym (c .before .before .before .loop .inv .2 ∙ l .inv .2 ∙ fold-end (pushOf (a .influence) (a .p)) (l .f) s (l .k) h)
+    sym (c .before .before .before .before .loop .inv .2 ∙ l .inv .2 ∙ fold-end (pushOf (a .influence) (a .p)) (l .f) s (l .k) h)
 
 pub push-all-spec : {M : Type 1} → statement M
 push-all-spec =
@@ -76,9 +99,15 @@ push-all-spec =
     (λ c. search needs)
     loop-again
     (λ c. (search needs, search needs, refl))
+    (λ c. search needs)
+    (λ c κs. search needs)
+    (λ c. search needs)
     (λ c κs. search needs)
     (λ c κs. search needs)
     (λ c. search needs)
     (λ c. search needs)
     loop2-again
-    returns)
+    (λ c κs. search needs)
+    (λ c κs. search needs)
+    returns
+    returns-2)
