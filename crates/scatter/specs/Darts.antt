@@ -16,7 +16,6 @@ use Rattle.glyphs.specs.declared.bounds.Bounds.the-variants.{Box, Nothing}
 use Rattle.glyphs.specs.declared.bounds.Extents.{Extents}
 use Rattle.glyphs.specs.declared.rect.Point.{Point}
 use Rattle.glyphs.specs.declared.rect.Rectangle.{Rectangle}
-use Rattle.glyphs.specs.declared.stream.Sample.{Sample}
 use Rattle.glyphs.specs.declared.stream.Stream.{Stream}
 use Rattle.glyphs.specs.Bounds.{ringBounds}
 use Rattle.glyphs.specs.Rect.{clearOfObstacles, obstaclesNear}
@@ -32,7 +31,15 @@ use Rattle.lattice.specs.Escape.{point}
 use Rattle.lattice.specs.declared.context.PackCtx.{PackCtx}
 use Rattle.scatter.specs.Front.{Front, length-first, first-written, first-put, front-put, written-over}
 use Rattle.scatter.specs.Random.{Thrown, Dart, hit, miss, afterDart, lands, throw, glyphs, throws, throwWithin, packRandomPiece}
+use Rattle.scatter.specs.declared.random.Aimed.{Aimed}
 use Rattle.scatter.specs.declared.random.Taken.{Taken}
+
+-- where the next dart is thrown: let x = rng.random_range(..); let y = rng.random_range(..)
+abbrev pub aimed : Stream → Extents → Aimed
+aimed rng range =
+    let x = randomRange rng (range .«min_x») (range .«max_x») in
+    let y = randomRange (x .next) (range .«min_y») (range .«max_y») in
+    record { x = x .value; y = y .value; next = y .next }
 
 -- the first marks of a slice, and a stream
 abbrev pub heldIn : ℕ → Stream → List Float → Thrown
@@ -97,32 +104,32 @@ module _ (piece : Piece) (n attempts : ℕ) (ctx : PackCtx) (near : List Rectang
       let e : attempts - t ≡ 0 = omega arith in
       rw e
 
-  module _ (t count : ℕ) (rng : Stream) (spots : List Float) (h : t < attempts) (x y : Sample) (ex : x ≡ randomRange rng (range .«min_x») (range .«max_x»)) (ey : y ≡ randomRange (x .next) (range .«min_y») (range .«max_y»)) where
+  module _ (t count : ℕ) (rng : Stream) (spots : List Float) (h : t < attempts) (d : Aimed) (ed : d ≡ aimed rng range) where
     abbrev landsAt : Bool
-    landsAt = lands piece n attempts ctx near (range .«min_x») (range .«max_x») (range .«min_y») (range .«max_y») honor (take count (spotsOf spots)) (point (x .value) (y .value))
+    landsAt = lands piece n attempts ctx near (range .«min_x») (range .«max_x») (range .«min_y») (range .«max_y») honor (take count (spotsOf spots)) (point (d .x) (d .y))
 
     attempt :
         darts (attempts - t) (take count (spotsOf spots)) rng
-        ≡ cond landsAt (hit (point (x .value) (y .value)) (y .next)) (darts (attempts - (t + 1)) (take count (spotsOf spots)) (y .next))
+        ≡ cond landsAt (hit (point (d .x) (d .y)) (d .next)) (darts (attempts - (t + 1)) (take count (spotsOf spots)) (d .next))
     unfolding throw
     attempt =
         let e : attempts - t ≡ suc (attempts - (t + 1)) = omega arith in
-        rw (e, ey, ex)
+        rw (e, ed)
 
-    module _ (placed : List Float) (ep : spotsOf placed ≡ take count (spotsOf spots)) (b : Bool) (eb : b ≡ (all (apart (x .value) (y .value) (spacing ctx *ᶠ spacing ctx)) (spotsOf placed) && signedClearance (x .value) (y .value) piece ≥ᶠ inset ctx && (not honor || clearOfObstacles (x .value) (y .value) near (inset ctx)))) where
+    module _ (placed : List Float) (ep : spotsOf placed ≡ take count (spotsOf spots)) (b : Bool) (eb : b ≡ (all (apart (d .x) (d .y) (spacing ctx *ᶠ spacing ctx)) (spotsOf placed) && signedClearance (d .x) (d .y) piece ≥ᶠ inset ctx && (not honor || clearOfObstacles (d .x) (d .y) near (inset ctx)))) where
       told : landsAt ≡ b
       unfolding lands apart
       told = rw (eb, ep)
 
-      pub missed : b ≡ false → trying t count rng spots ≡ trying (t + 1) count (y .next) spots
-      missed e = rw (attempt, told, e) (same-marks (marks (n - (count + 1))) (take count (spotsOf spots)) rng (y .next) (darts (attempts - (t + 1)) (take count (spotsOf spots)) (y .next)))
+      pub missed : b ≡ false → trying t count rng spots ≡ trying (t + 1) count (d .next) spots
+      missed e = rw (attempt, told, e) (same-marks (marks (n - (count + 1))) (take count (spotsOf spots)) rng (d .next) (darts (attempts - (t + 1)) (take count (spotsOf spots)) (d .next)))
 
       pub landed :
-          (later entry : List Float) → b ≡ true → later ≡ putSpot spots count (point (x .value) (y .value))
+          (later entry : List Float) → b ≡ true → later ≡ putSpot spots count (point (d .x) (d .y))
           → length spots ≡ length entry → count * 2 + 1 < length entry → Front count spots entry
-          → Front (count + 1) later entry × (trying t count rng spots ≡ passFrom (count + 1) (y .next) later)
+          → Front (count + 1) later entry × (trying t count rng spots ≡ passFrom (count + 1) (d .next) later)
       landed later entry e put same k front =
-          let p = point (x .value) (y .value) in
+          let p = point (d .x) (d .y) in
           let f : take (count + 1) (spotsOf (putSpot spots count p)) ≡ take count (spotsOf spots) ++ p ∷ [] = first-put count spots entry same front p k in
           rw put (front-put count spots entry same front p k, rw (attempt, told, e, f))
 

@@ -14,7 +14,7 @@ ghost use Rattle.regions.specs.Margin.{marginOf};
 ghost use Rattle.relax.specs.Scatter.{relaxScatter};
 ghost use Rattle.lattice.specs.Context.{inset, spacing};
 ghost use Rattle.scatter.specs.Random.{throws, packRandomPiece};
-ghost use Rattle.scatter.specs.Darts.{Holds, passFrom};
+ghost use Rattle.scatter.specs.Darts.{Holds, passFrom, aimed};
 use glyphs::bounds::Bounds;
 use glyphs::bounds::Extents;
 use glyphs::rect::Point;
@@ -64,7 +64,30 @@ fn lands(
     true
 }
 
-// One pass: marks behind those that `spots` has, until they are n or one is out of attempts.
+// Where a dart is thrown, and the stream after it.
+pub struct Aimed {
+    pub x: f64,
+    pub y: f64,
+    pub next: Stream,
+}
+
+// The next dart: x is drawn, then y.
+fn aim(rng: Stream, range: Extents) -> Aimed
+    ensures { λ r. ⌜ r ≡ aimed rng range ⌝ }
+{
+    let x = rng.random_range(range.min_x, range.max_x);
+    let between = x.next;
+    let y = between.random_range(range.min_y, range.max_y);
+    let next = y.next;
+    Aimed {
+        x: x.value,
+        y: y.value,
+        next,
+    }
+}
+
+// One pass: marks behind those that `spots` has, until they are n or one is out of attempts. The next dart is aimed before
+// one is judged: what becomes of that nobody can guess, and the stream waits for no answer.
 fn throw_glyphs(
     honor: bool,
     n: usize,
@@ -83,17 +106,16 @@ fn throw_glyphs(
 {
     let mut count = start.count;
     let mut rng = start.rng;
+    let mut ahead = aim(rng, range);
     'glyphs: while count < n {
         let mut t = 0;
         while t < attempts {
-            let x = rng.random_range(range.min_x, range.max_x);
-            let next = x.next;
-            let y = next.random_range(range.min_y, range.max_y);
-            rng = y.next;
             let p = Point {
-                x: x.value,
-                y: y.value,
+                x: ahead.x,
+                y: ahead.y,
             };
+            rng = ahead.next;
+            ahead = aim(rng, range);
             let placed = spots_before(&spots[..], count);
             if lands(honor, p, ctx, margin, sizes, coords, near, placed) {
                 put_spot(&mut spots[..], count, p);
