@@ -66,19 +66,24 @@ pub fn apart_from_eight(x: f64, y: f64, least: f64, spots: &[f64], k: usize) -> 
     ok
 }
 
-// The same for all marks: which one is too near nobody can guess, so that there is a branch for each eight alone.
+// The same for all marks. Whether one is too near nobody can guess, so that of the last of them, fewer than 32, none is
+// branched on.
 pub fn apart_from_all(x: f64, y: f64, least: f64, spots: &[f64]) -> bool
     ensures { λ r. ⌜ r ≡ all (apart x y least) (spotsOf (now (spots .entry))) ⌝ }
 {
     let n = spots.len() / 2;
     let mut k = 0;
-    while n - k >= 8 {
+    while n - k >= 32 {
         if !apart_from_eight(x, y, least, spots, k) {
             return false;
         }
         k += 8;
     }
     let mut ok = true;
+    while n - k >= 8 {
+        ok = ok & apart_from_eight(x, y, least, spots, k);
+        k += 8;
+    }
     while k < n {
         ok = ok & apart(x, y, least, spot(spots, k));
         k += 1;
