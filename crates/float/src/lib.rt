@@ -1,4 +1,10 @@
-// Functions on `f64` that the language lacks. Each is equal to the definition of its name in specs/.
+// Functions on `f64`, and products of `u64`, that the language lacks. Each of the former is equal to the definition of
+// its name in specs/.
+
+// Products of `u64` in full.
+mod wide;
+
+pub use wide::wrapping_mul;
 
 // The square root.
 mod roots;

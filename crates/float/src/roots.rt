@@ -6,6 +6,8 @@ ghost use lib.Dec.{T};
 ghost use lib.Ieee.{binary64, ofBits};
 ghost use Rattle.float.specs.Root.{Near, nearestRoot, rootOf};
 ghost use Rattle.float.specs.Order.{sqrt, hypot};
+use crate::wide::high_mul;
+use crate::wide::wrapping_mul;
 
 // The whole number nearest to √(m * 2^52), digit by digit. With y for m * 2^52, at each turn q is the root's
 // digits down to the bit `bit`, and what is left of y is y - q * q, kept as `rest` * `bit`. A turn tries the
@@ -31,9 +33,9 @@ fn digit_root(m: u64) -> u64
 
 // A guess at √x from the bit pattern of x: 1 / √x from the pattern, as in the fast inverse square root of Quake III
 // Arena, and two steps of Newton's method, with the numbers that leave the least error, give d, to 21 digits. Then s
-// is x * d to 22 digits, so that `rest`, what x has above s * s, is exact, and rest / (s + √x), worked out by d and
-// `rest`, is what s lacks. Nothing is proved of the guess: `is_root` tests it. For a normal x below 2^1023 it is
-// the root but for some 3 in 10,000.
+// is x * d to some 22 digits, cut by adding and taking away some 2^31 * √x, so that `rest`, what x has above s * s, is
+// exact, and rest / (s + √x), worked out by d and `rest`, is what s lacks. Nothing is proved of the guess: `is_root`
+// tests it. For a normal x below 2^1023 it is the root but for some 3 in 10,000.
 fn root_guess(pattern: u64) -> f64
     requires { ⌜ pattern < 0x7ff0_0000_0000_0000 ⌝ }
 {
@@ -44,45 +46,31 @@ fn root_guess(pattern: u64) -> f64
     let q = x * d;
     let h = 0.5 * d;
     let g = h + 0.5 * h * (1.0 - q * d);
-    let t = q * 2147483649.0;
-    let s = t - (t - q);
+    let far = f64::from_bits(pattern / 2 + 0x21e7_a3be_a91d_9b1b);
+    let s = (q + far) - far;
     let rest = x - s * s;
     let lack = rest * g;
     s + (lack + lack * (rest * (h * h)))
 }
 
-// Whether r is seen to be the whole number nearest to √(m * 2^52). Where (m + 2) * 2^52 - r * r is not negative and
-// small, it is worked out exactly, in halves of 27 bits, as `rest`: the nearest is r where that is 2^53, give or
-// take r.
+// Whether r is the whole number nearest to √(m * 2^52). `rest` is (m + 2) * 2^52 - r * r where `high` and the borrow
+// are the upper half of (m + 2) * 2^52: the nearest is r where that is 2^53, give or take r.
 fn is_nearest(m: u64, r: u64) -> bool
     requires { ⌜ m < 2 ^ 54 ⌝ ∗ ⌜ r < 2 ^ 54 ⌝ }
     ensures { λ b. ⌜ (T b → Near (m * 2 ^ 52) r) ⌝ }
 {
-    let a = r / 0x800_0000;
-    let b = r % 0x800_0000;
     let top = m + 2;
-    let square = a * a * 4;
-    if square > top {
+    let high = high_mul(r, r);
+    let low = wrapping_mul(r, r);
+    let lower = top % 0x1000 * 0x10_0000_0000_0000;
+    let rest = std::num::wrapping_sub_u64(lower, low);
+    if high + (lower < low) as u64 != top / 0x1000 {
         return false;
     }
-    let high = top - square;
-    if high >= 0x8_0000_0000 {
+    if rest > r + 0x20_0000_0000_0000 {
         return false;
     }
-    let cross = a * b;
-    if cross > high * 0x100_0000 {
-        return false;
-    }
-    let middle = high * 0x100_0000 - cross;
-    if middle >= 0x8_0000_0000 {
-        return false;
-    }
-    let low = b * b;
-    if low > middle * 0x1000_0000 {
-        return false;
-    }
-    let rest = middle * 0x1000_0000 - low;
-    (rest + r > 0x20_0000_0000_0000) & (rest <= r + 0x20_0000_0000_0000)
+    rest + r > 0x20_0000_0000_0000
 }
 
 // The `f64` nearest to √n of the least `f64`, 2^-1074, where n is m * 2^52 * 2^g: m has 53 digits, and the last
@@ -127,8 +115,14 @@ fn is_root(bits: u64, guess: f64) -> bool
     false
 }
 
-// The root of a finite x above zero from its bit pattern. A pattern below 2^52 is a subnormal x: its digits are
-// moved up until they are 53, and nothing is guessed.
+fn is_normal(bits: u64) -> bool
+    ensures { λ b. ⌜ (T b → (2 ^ 52 ≤ bits) × (bits < 0x7ff0_0000_0000_0000)) ⌝ }
+{
+    (bits >= 0x10_0000_0000_0000) & (bits < 0x7ff0_0000_0000_0000)
+}
+
+// The root of a finite x above zero from its bit pattern, its digits found one at a time. A pattern below 2^52 is a
+// subnormal x: its digits are moved up until they are 53.
 fn root_of(bits: u64) -> f64
     requires { ⌜ 0 < bits ⌝ ∗ ⌜ bits < 0x7ff0_0000_0000_0000 ⌝ }
     ensures { λ r. ⌜ r ≡ rootOf binary64 (ofBits binary64 bits) ⌝ }
@@ -137,18 +131,14 @@ fn root_of(bits: u64) -> f64
         let z = u64::leading_zeros(bits) - 11;
         return scaled_root(bits << z, (1022 - z) as u64);
     }
-    let guess = root_guess(bits);
-    if is_root(bits, guess) {
-        return guess;
-    }
     scaled_root(
         bits % 0x10_0000_0000_0000 + 0x10_0000_0000_0000,
         bits / 0x10_0000_0000_0000 + 1021,
     )
 }
 
-// `f64::sqrt`: the nearest `f64`, a NaN below zero and at a NaN, and a zero or the infinity itself.
-pub fn root(x: f64) -> f64
+// `root` with nothing guessed.
+fn unguessed_root(x: f64) -> f64
     ensures { λ r. ⌜ r ≡ sqrt x ⌝ }
 {
     if x > 0.0 {
@@ -165,6 +155,22 @@ pub fn root(x: f64) -> f64
     }
 }
 
+// `f64::sqrt`: the nearest `f64`, a NaN below zero and at a NaN, and a zero or the infinity itself.
+pub fn root(x: f64) -> f64
+    ensures { λ r. ⌜ r ≡ sqrt x ⌝ }
+{
+    if x > 0.0 {
+        let bits = f64::to_bits(x);
+        if is_normal(bits) {
+            let guess = root_guess(bits);
+            if is_root(bits, guess) {
+                return guess;
+            }
+        }
+    }
+    unguessed_root(x)
+}
+
 // `f64::hypot`, as the scope has it.
 pub fn hypot(a: f64, b: f64) -> f64
     ensures { λ r. ⌜ r ≡ hypot a b ⌝ }
@@ -176,12 +182,6 @@ pub fn hypot(a: f64, b: f64) -> f64
 pub struct Two {
     pub a: f64,
     pub b: f64,
-}
-
-fn is_normal(bits: u64) -> bool
-    ensures { λ b. ⌜ (T b → (2 ^ 52 ≤ bits) × (bits < 0x7ff0_0000_0000_0000)) ⌝ }
-{
-    (bits >= 0x10_0000_0000_0000) & (bits < 0x7ff0_0000_0000_0000)
 }
 
 // Both roots. The guesses at them are worked out side by side.

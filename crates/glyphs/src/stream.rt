@@ -1,7 +1,7 @@
 // The random stream in place of rand's StdRng: SplitMix64.
 ghost use mathlib.Core.Path.{_≡_};
 ghost use Rattle.glyphs.specs.Stream.{seeded, draw, randomRange};
-use crate::hash::wrapping_mul;
+use float::wrapping_mul;
 
 pub struct Stream {
     pub state: u64,

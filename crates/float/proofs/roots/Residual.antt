@@ -1,35 +1,36 @@
--- What is left of m * 2 ^ 52 after the square of r, worked out in halves of 27 bits; and that r is nearest to the root, by what is left.
+-- What is left of m * 2 ^ 52 after a square; and that r is nearest to the root, by what is left.
 -- Assumes nothing.
-use mathlib.Core.Path.{_≡_, subst}
-use Prim.Native.Nat.{ℕ, zero, suc, _+_, _-_, _*_, _/_, _%_, _^_, _≤_, _<_}
-use native.Mathlib.Nat.{le-of-lt, lt-of-le-of-lt, mul-le-mul-left, mul-lt-mul-of-pos-right, div-add-mod'}
+use mathlib.Core.Path.{_≡_}
+use mathlib.Core.Logic.{inl, inr}
+use Prim.Native.Nat.{ℕ, zero, suc, _+_, _*_, _/_, _%_, _^_, _≤_, _<_}
+use native.Mathlib.Nat.{mul-le-mul}
 use native.Mathlib.Omega.{arith}
-use lib.Pow.{pow-pos}
+use mathlib.Core.Bool.{Bool}
+use lib.Dec.{ltb}
+use mir.Val.{boolByte}
+use borrow.Author.Tests.{lt-ltb, le-ltb}
+use Rattle.laws.specs.Truth.{flag-le}
+use Rattle.laws.specs.Orders.{lt-or-le}
 use Rattle.float.specs.Root.{Near}
 use Rattle.float.proofs.roots.Digit.{near-suc}
 
--- ---- the halves of r, and a product of two
-pub halves-lt : {x y : ℕ} → x < 2 ^ 27 → y < 2 ^ 27 → x * y < 2 ^ 54
-halves-lt {x} {y} h k = lt-of-le-of-lt (mul-le-mul-left x (le-of-lt k)) (mul-lt-mul-of-pos-right h (pow-pos 27))
+-- ---- what is left, from the halves of 64 bits of the square and of m * 2 ^ 52
+pub residual : (m n rest : ℕ) → rest < 2 ^ 64 → (rest + n % 2 ^ 64) % 2 ^ 64 ≡ m % 0x1000 * 2 ^ 52
+    → n / 2 ^ 64 + boolByte (ltb (m % 0x1000 * 2 ^ 52) (n % 2 ^ 64)) ≡ m / 0x1000 → n + rest ≡ m * 2 ^ 52
+residual m n rest h e s = elim (lt-or-le (m % 0x1000 * 2 ^ 52) (n % 2 ^ 64)) [
+  | inl l ↦ let b : boolByte (ltb (m % 0x1000 * 2 ^ 52) (n % 2 ^ 64)) ≡ 1 = rw (lt-ltb _ _ l) in omega (arith, b)
+  | inr g ↦ let b : boolByte (ltb (m % 0x1000 * 2 ^ 52) (n % 2 ^ 64)) ≡ 0 = rw (le-ltb _ _ g) in omega (arith, b)
+]
 
-pub high-half : (r : ℕ) → r < 2 ^ 54 → r / 2 ^ 27 < 2 ^ 27
-high-half r h = omega arith
+-- what is added fits
+pub high-fits : (r h : ℕ) (b : Bool) → r < 2 ^ 54 → h ≡ r * r / 2 ^ 64 → h + boolByte b < 2 ^ 64
+high-fits r h b l e =
+    let p : r ≤ 0x3f_ffff_ffff_ffff = omega arith in
+    let q : h < 2 ^ 44 = omega (arith, mul-le-mul p p) in
+    omega (arith, q, flag-le b)
 
-pub low-half : (r : ℕ) → r % 2 ^ 27 < 2 ^ 27
-low-half r = omega arith
-
--- ---- what is left
-abbrev pub rest : ℕ → ℕ → ℕ → ℕ
-rest m a b = ((m - a * a * 4) * 2 ^ 24 - a * b) * 2 ^ 28 - b * b
-
-left : (m a b : ℕ) → a * a * 4 ≤ m → a * b ≤ (m - a * a * 4) * 2 ^ 24 → b * b ≤ ((m - a * a * 4) * 2 ^ 24 - a * b) * 2 ^ 28
-    → (a * 2 ^ 27 + b) * (a * 2 ^ 27 + b) + rest m a b ≡ m * 2 ^ 52
-left m a b x y z = omega arith
-
-pub residual : (m r : ℕ) → r / 2 ^ 27 * (r / 2 ^ 27) * 4 ≤ m → r / 2 ^ 27 * (r % 2 ^ 27) ≤ (m - r / 2 ^ 27 * (r / 2 ^ 27) * 4) * 2 ^ 24
-    → r % 2 ^ 27 * (r % 2 ^ 27) ≤ ((m - r / 2 ^ 27 * (r / 2 ^ 27) * 4) * 2 ^ 24 - r / 2 ^ 27 * (r % 2 ^ 27)) * 2 ^ 28
-    → r * r + rest m (r / 2 ^ 27) (r % 2 ^ 27) ≡ m * 2 ^ 52
-residual m r x y z = subst (λ (n : ℕ). n * n + rest m (r / 2 ^ 27) (r % 2 ^ 27) ≡ m * 2 ^ 52) (div-add-mod' r (2 ^ 27)) (left m (r / 2 ^ 27) (r % 2 ^ 27) x y z)
+pub rest-fits : (r d : ℕ) → r < 2 ^ 54 → d ≤ r + 2 ^ 53 → d + r < 2 ^ 64
+rest-fits r d l h = omega arith
 
 -- ---- r is nearest where that is 2 ^ 53, give or take r, of 2 ^ 53 more
 pub nearest : (y r d : ℕ) → r * r + d ≡ y + 2 ^ 53 → 2 ^ 53 < d + r → d ≤ r + 2 ^ 53 → Near y r

@@ -75,3 +75,7 @@ no-root (fin false (suc m) e) a b = absurd (T-not (lt origin (fin false (suc m) 
 
 pub below-zero : (x : Float) → lt (ofBits binary64 0) x ≡ false → eq x (ofBits binary64 0) ≡ false → div binary64 (ofBits binary64 0) (ofBits binary64 0) ≡ rootOf binary64 x
 below-zero x a b = nan-is ∙ no-root x (rw origin-is at (no a)) (rw origin-is at (no b))
+
+-- a root by its pattern is the root
+pub own-root : (x r : Float) → T (fits binary64 x) → r ≡ rootOf binary64 (ofBits binary64 (toBits binary64 x)) → r ≡ rootOf binary64 x
+own-root x r f e = e ∙ ap (rootOf binary64) (ofBits-toBits binary64 x f)

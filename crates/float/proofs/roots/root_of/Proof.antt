@@ -1,5 +1,5 @@
 -- `float::root_of` meets its contract: a pattern's fields are the digits and their scale.
--- Rests on `Value.antt` and the contracts of `is_root` and `scaled_root`.
+-- Rests on `Value.antt` and the contract of `scaled_root`.
 use mathlib.Core.Path.{_≡_, sym, ap, _∙_}
 use Prim.Native.Nat.{ℕ, _*_, _-_, _%_, _^_, _<_}
 use native.Mathlib.Nat.{mod-eq-of-lt}
@@ -8,7 +8,6 @@ use lib.Count.{leadingZeros}
 use lib.Ieee.{binary64}
 use Rattle.float.specs.Root.{nearestRoot}
 use borrow.Author.Needs.{needs}
-use Rattle.laws.specs.Truth.{yes}
 use Rattle.float.proofs.roots.Value.{normal-root, subnormal-root, moved}
 use Rattle.float.proofs.roots.root_of.Statement.{statement}
 use Rattle.float.proofs.roots.root_of.Tie as tie
@@ -43,16 +42,10 @@ returns c =
     ∙ ap (λ (n : ℕ). nearestRoot binary64 (n * 2 ^ 52 * 2 ^ (1022 - (leadingZeros 64 (s .args .bits) - 11)))) (kept (s .args .bits * 2 ^ (leadingZeros 64 (s .args .bits) - 11)) (f .3))
     ∙ sym (subnormal-root (s .args .bits) (leadingZeros 64 (s .args .bits) - 11) (s .pre .0) (c .before .if1 .taken) (f .1))
 
-is-root-requires : tie.Need-is-root-requires
-is-root-requires c κs = (c .before .if1 .left, c .before .before .pre .1)
-
 returns-2 : tie.Need-returns-2
-returns-2 c = c .before .is-root .ensures (yes (c .if2 .taken))
-
-returns-3 : tie.Need-returns-3
-returns-3 c =
-    let s = c .before .before .before .before .before in
-    c .scaled-root2 .ensures ∙ sym (normal-root (s .args .bits) (c .before .before .before .before .if1 .left) (s .pre .1))
+returns-2 c =
+    let s = c .before .before in
+    c .scaled-root2 .ensures ∙ sym (normal-root (s .args .bits) (c .before .if1 .left) (s .pre .1))
 
 pub root-of-spec : {M : Type 1} → statement M
 root-of-spec =
@@ -65,10 +58,7 @@ root-of-spec =
     cast-scaled-root-2
     scaled-root-requires
     returns
-    (λ c κs. search needs)
-    is-root-requires
-    returns-2
     (λ c. search needs)
     (λ c. search needs)
     (λ c κs. search needs)
-    returns-3)
+    returns-2)

@@ -9,7 +9,7 @@ use lib.Ieee.Bits.{ofBits-toBits}
 use borrow.Author.Needs.{needs}
 use Rattle.laws.specs.Truth.{yes, both-true}
 use Rattle.float.specs.Root.{rootOf}
-use Rattle.float.proofs.roots.Tests.{above-number}
+use Rattle.float.proofs.roots.Tests.{above-number, own-root}
 use Rattle.float.proofs.roots.two_roots.Statement.{statement}
 use Rattle.float.proofs.roots.two_roots.Tie as tie
 
@@ -44,17 +44,13 @@ is-root-requires c κs = normal (c .before .before) .0
 is-root-requires-2 : tie.Need-is-root-requires-2
 is-root-requires-2 c κs = normal (c .before .before .before) .1
 
--- a root by its pattern is the root
-own : (x r : Float) → T (fits binary64 x) → r ≡ rootOf binary64 (ofBits binary64 (toBits binary64 x)) → r ≡ rootOf binary64 x
-own x r f e = e ∙ ap (rootOf binary64) (ofBits-toBits binary64 x f)
-
 returns : tie.Need-returns
 returns c =
     let s = c .before .before .before .before .before .before .before .before .before in
     let p = c .before .before .is-root in
     let q = c .before .is-root2 in
     let t = both-true (p .result) (q .result) (c .if3 .taken) in
-    (own (s .args .x) _ (yes (s .good .0 .1)) (p .ensures (yes (t .0))), own (s .args .y) _ (yes (s .good .1 .0 .1)) (q .ensures (yes (t .1))))
+    (own-root (s .args .x) _ (yes (s .good .0 .1)) (p .ensures (yes (t .0))), own-root (s .args .y) _ (yes (s .good .1 .0 .1)) (q .ensures (yes (t .1))))
 
 returns-2 : tie.Need-returns-2
 returns-2 c = (c .before .root .ensures, c .root2 .ensures)

@@ -2,9 +2,9 @@
 -- Rests on the law of a product from halves.
 use mathlib.Core.Path.{_∙_}
 use borrow.Author.Needs.{needs}
-use Rattle.glyphs.proofs.Halves.{half-product, low-product}
-use Rattle.glyphs.proofs.hash.wrapping_mul.Statement.{statement}
-use Rattle.glyphs.proofs.hash.wrapping_mul.Tie as tie
+use Rattle.float.proofs.wide.Halves.{half-product, low-product}
+use Rattle.float.proofs.wide.wrapping_mul.Statement.{statement}
+use Rattle.float.proofs.wide.wrapping_mul.Tie as tie
 
 mul-cross : tie.Need-mul-cross
 mul-cross c = record { fits = half-product _ _ (search needs) (search needs) }
