@@ -1,6 +1,6 @@
 -- The root of the least square is the least distance, for every piece and place, NaN and infinity among them, and more edges never make it greater.
 -- Rests on the law that the lesser of two roots is the root of the lesser, and on the order of floats.
-use Prim.Native.Nat.{ℕ, zero, suc, _+_, _≤_, zero-le}
+use Prim.Native.Nat.{ℕ, zero, suc, _+_, _-_, _≤_, zero-le}
 use mathlib.Core.Path.{_≡_, refl, sym, ap, _∙_}
 use mathlib.Core.Logic.{inl, inr}
 use mathlib.Core.Bool.{Bool, true, false, cond, true≢false}
@@ -8,6 +8,7 @@ use mathlib.Core.List.{List, [], _∷_, foldl}
 use native.Mathlib.Omega.{arith}
 use native.Mathlib.Nat.{eq-or-lt-of-le, le-of-suc-le-suc}
 use lib.Dec.{T, ltb}
+use borrow.Author.Tests.{le-ltb}
 use lib.Ieee
 use lib.Ieee.{Float, nan, inf, fin, binary64, lt, le, ofBits, isNan}
 use lib.Ieee.Bits.{ofBits-fits, is-true}
@@ -181,7 +182,7 @@ module _ (px py : Float) (ring : Ring) (n h : ℕ) where
   from-good zero = ∞-good
   from-good (suc k) = closer-good _ _ (edge-square px py _ _ _ _) (from-good k)
 
-  pub in-two-parts : (b : Float) (k : ℕ) → leastAfter px py b ring n (h + k) ≡ closer (leastFrom px py ring n h k) (leastAfter px py b ring n h)
+  in-two-parts : (b : Float) (k : ℕ) → leastAfter px py b ring n (h + k) ≡ closer (leastFrom px py ring n h k) (leastAfter px py b ring n h)
   unfolding leastAfter leastFrom closer
   in-two-parts b zero =
       let e : h + 0 ≡ h = omega arith in
@@ -191,3 +192,13 @@ module _ (px py : Float) (ring : Ring) (n h : ℕ) where
       ap (leastAfter px py b ring n) e
       ∙ ap (closer (squareAt px py ring n (h + k))) (in-two-parts b k)
       ∙ nested (squareAt px py ring n (h + k)) (leastFrom px py ring n h k) (leastAfter px py b ring n h) (from-good k .number)
+
+-- the halves of a ring, or any two parts
+pub of-halves :
+    (px py b : Float) (ring : Ring) (h : ℕ) → 2 ≤ vertices ring → h ≤ vertices ring
+    → closer (leastFrom px py ring (vertices ring) h (vertices ring - h)) (leastAfter px py b ring (vertices ring) h) ≡ leastOfRing px py b ring
+unfolding leastOfRing
+of-halves px py b ring h p q =
+    let n = vertices ring in
+    let e : h + (n - h) ≡ n = omega arith in
+    rw (le-ltb n 2 p) (sym (in-two-parts px py ring n h b (n - h)) ∙ ap (leastAfter px py b ring n) e)

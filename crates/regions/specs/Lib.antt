@@ -10,4 +10,5 @@ pub mod Pillars
 pub mod Facts
 pub mod Sizes
 pub mod Sides
+pub mod Turns
 pub mod Four

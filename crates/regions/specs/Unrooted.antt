@@ -1,7 +1,7 @@
 -- A clearance whose root is not taken, and what is asked of it without the root: definitions for the code, and their laws.
 -- Rests on the law of the least square's root and on the laws of a margin's squares.
 use mathlib.Core.Path.{_≡_, refl, sym, ap, _∙_}
-use mathlib.Core.Bool.{Bool, true, false, cond}
+use mathlib.Core.Bool.{Bool, true, false, not, cond, _||_}
 use Prim.Native.Nat.{zero, suc}
 use lib.Dec.{T, T-not}
 use lib.Ieee.{Float, nan, inf, fin, binary64, neg, lt, le}
@@ -25,6 +25,10 @@ unfoldable pub unrooted : Float → Float → Piece → Float
 unrooted px py piece =
     let square = leastOfRings px py piece in
     cond (within px py piece) square (neg (sqrt square))
+
+-- a clearance by its square, the root taken always or outside only
+unfoldable pub rootedIf : Bool → Bool → Float → Float
+rootedIf always inside square = cond (always || not inside) (cond inside (sqrt square) (neg (sqrt square))) square
 
 -- the clearance that it stands for
 unfoldable pub rooted : Float → Float
@@ -74,6 +78,18 @@ rooted-clearance px py piece = go (within px py piece)
         ≡ cond t (minDistToRings px py piece) (neg (minDistToRings px py piece))
     go true = rooted-above (leastOfRings px py piece) (least-above px py piece) ∙ sym (least-root px py piece)
     go false = rooted-neg (sqrt (leastOfRings px py piece)) (rw (← least-root px py piece) (dist-least px py piece)) ∙ ap neg (sym (least-root px py piece))
+
+pub always-rooted : (px py : Float) (piece : Piece) → rootedIf true (within px py piece) (leastOfRings px py piece) ≡ signedClearance px py piece
+unfolding rootedIf signedClearance
+always-rooted px py piece = rw (least-root px py piece)
+
+pub rooted-outside : (px py : Float) (piece : Piece) → rootedIf false (within px py piece) (leastOfRings px py piece) ≡ unrooted px py piece
+unfolding rootedIf unrooted
+rooted-outside px py piece = go (within px py piece)
+  where
+    go : (t : Bool) → rootedIf false t (leastOfRings px py piece) ≡ cond t (leastOfRings px py piece) (neg (sqrt (leastOfRings px py piece)))
+    go true = refl
+    go false = refl
 
 pub high-not-below : (c u : Float) → T (le (highSquare c) u) → rooted u <ᶠ c ≡ false
 high-not-below c u h =

@@ -5,9 +5,11 @@ ghost use lib.ListN.{length};
 ghost use Rattle.regions.specs.Ring.{sum, pieceOf};
 ghost use Rattle.regions.specs.Clearance.{along, edgeSquare, squareAt, closer, within, signedClearance};
 ghost use Rattle.regions.specs.Squares.{leastOfRing, leastOfRings, leastFrom};
+ghost use Rattle.regions.specs.Unrooted.{rootedIf};
 use crate::inside::point_in_polygon;
 use crate::ring::after;
 use crate::ring::ring_at;
+use crate::small::ring_clearance;
 use glyphs::points::vx;
 use glyphs::points::vy;
 
@@ -34,7 +36,7 @@ pub fn edge_square(px: f64, py: f64, ax: f64, ay: f64, bx: f64, by: f64) -> f64
     ex * ex + ey * ey
 }
 
-fn lesser(d: f64, best: f64) -> f64
+pub fn lesser(d: f64, best: f64) -> f64
     ensures { λ r. ⌜ r ≡ closer d best ⌝ }
 {
     if d < best {
@@ -69,7 +71,7 @@ fn closer_at(px: f64, py: f64, best: f64, ring: &[f64], i: usize) -> f64
 
 // The least of the second half of a ring's edges, of which `best` is that of as many as the first half has: an odd
 // number of edges leaves the last one.
-fn with_last(px: f64, py: f64, best: f64, ring: &[f64], half: usize) -> f64
+pub fn with_last(px: f64, py: f64, best: f64, ring: &[f64], half: usize) -> f64
     requires { ⌜ (half ≡ length (now ring) / 2 / 2) × (best ≡ leastFrom px py (now ring) (length (now ring) / 2) half half) ⌝ }
     ensures { λ r. ⌜ r ≡ leastFrom px py (now (ring .entry)) (length (now (ring .entry)) / 2) half (length (now (ring .entry)) / 2 - half) ⌝ }
 {
@@ -143,12 +145,34 @@ pub fn inside_piece(x: f64, y: f64, sizes: &[usize], coords: &[f64]) -> bool
     true
 }
 
-// The inside test stands before the root: nothing in it waits for the distance.
+// The root of a square, with a minus outside; unless `always` is set, only outside.
+pub fn with_root(square: f64, inside: bool, always: bool) -> f64
+    ensures { λ r. ⌜ r ≡ rootedIf always inside square ⌝ }
+{
+    if always | !inside {
+        return float::negate_unless(float::root(square), inside);
+    }
+    square
+}
+
+// `signed_clearance`, its root taken always or outside only. The inside test stands before the root: nothing in it waits
+// for the distance.
+pub fn clearance(px: f64, py: f64, sizes: &[usize], coords: &[f64], always: bool) -> f64
+    requires { ⌜ (0 < length (now sizes)) × (sum (now sizes) * 2 ≤ length (now coords)) ⌝ }
+    ensures { λ r. ⌜ r ≡ rootedIf always (within px py (pieceOf (now (sizes .entry)) (now (coords .entry)))) (leastOfRings px py (pieceOf (now (sizes .entry)) (now (coords .entry)))) ⌝ }
+{
+    let n = sizes[0];
+    if (sizes.len() == 1) & ((n >= 3) & (n <= 24)) {
+        return ring_clearance(px, py, ring_at(coords, 0, n), always);
+    }
+    let square = rings_square(px, py, sizes, coords);
+    let inside = inside_piece(px, py, sizes, coords);
+    with_root(square, inside, always)
+}
+
 pub fn signed_clearance(px: f64, py: f64, sizes: &[usize], coords: &[f64]) -> f64
     requires { ⌜ (0 < length (now sizes)) × (sum (now sizes) * 2 ≤ length (now coords)) ⌝ }
     ensures { λ r. ⌜ r ≡ signedClearance px py (pieceOf (now (sizes .entry)) (now (coords .entry))) ⌝ }
 {
-    let square = rings_square(px, py, sizes, coords);
-    let inside = inside_piece(px, py, sizes, coords);
-    float::negate_unless(float::root(square), inside)
+    clearance(px, py, sizes, coords, true)
 }

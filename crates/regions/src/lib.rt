@@ -7,4 +7,5 @@ pub mod inside;
 pub mod margin;
 pub mod pillars;
 pub mod ring;
+mod small;
 pub mod unrooted;

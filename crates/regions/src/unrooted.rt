@@ -7,19 +7,14 @@ ghost use Rattle.float.specs.Ops.{_<ᶠ_};
 ghost use Rattle.regions.specs.Ring.{sum, pieceOf};
 ghost use Rattle.regions.specs.Margin.{marginOf};
 ghost use Rattle.regions.specs.Unrooted.{unrooted, rooted};
-use crate::clearance::inside_piece;
-use crate::clearance::rings_square;
+use crate::clearance::clearance;
 use crate::margin::Margin;
 
 pub fn unrooted_clearance(px: f64, py: f64, sizes: &[usize], coords: &[f64]) -> f64
     requires { ⌜ (0 < length (now sizes)) × (sum (now sizes) * 2 ≤ length (now coords)) ⌝ }
     ensures { λ r. ⌜ r ≡ unrooted px py (pieceOf (now (sizes .entry)) (now (coords .entry))) ⌝ }
 {
-    let square = rings_square(px, py, sizes, coords);
-    if inside_piece(px, py, sizes, coords) {
-        return square;
-    }
-    -float::root(square)
+    clearance(px, py, sizes, coords, false)
 }
 
 // The clearance.

@@ -11,7 +11,7 @@ use lib.ListN.{length}
 use lib.Ieee.{Float}
 use Rattle.regions.specs.Clearance.{closer}
 use Rattle.regions.specs.Squares.{leastAfter, leastFrom, leastOfRing, infinite}
-use Rattle.regions.specs.Least.{in-two-parts}
+use Rattle.regions.specs.Least.{of-halves}
 use Rattle.regions.proofs.clearance.ring_square.Statement.{statement}
 use Rattle.regions.proofs.clearance.ring_square.Tie as tie
 
@@ -38,21 +38,11 @@ with-last-requires : tie.Need-with-last-requires Inv-loop μ-loop
 with-last-requires c κs = (search needs, cc (le-antisymm (c .before .loop .inv .0) (c .loop-test .left)))
 
 returns-2 : tie.Need-returns-2 Inv-loop μ-loop
-unfolding leastOfRing
 returns-2 c =
     let a = c .before .before .before .before .before .before .args in
-    let n = length (a .ring .now) / 2 in
-    let h = n / 2 in
-    let e : h + (n - h) ≡ n = omega arith in
     let l = c .before .before .before .loop in
-    let done : l .i ≡ h = le-antisymm (l .inv .0) (c .before .before .loop-test .left) in
-    let best : l .best ≡ leastAfter (a .px) (a .py) (a .start) (a .ring .now) n h = l .inv .3 ∙ ap (leastAfter (a .px) (a .py) (a .start) (a .ring .now) n) done in
-    rw (le-ltb _ _ (c .before .before .before .before .if1 .left))
-    (c .lesser .ensures
-    ∙ ap (λ (x : Float). closer x (l .best)) (c .before .with-last .ensures)
-    ∙ ap (closer (leastFrom (a .px) (a .py) (a .ring .now) n h (n - h))) best
-    ∙ sym (in-two-parts (a .px) (a .py) (a .ring .now) n h (a .start) (n - h))
-    ∙ ap (leastAfter (a .px) (a .py) (a .start) (a .ring .now) n) e)
+    let done = le-antisymm (l .inv .0) (c .before .before .loop-test .left) in
+    cc (done, of-halves (a .px) (a .py) (a .start) (a .ring .now) (length (a .ring .now) / 2 / 2) (c .before .before .before .before .if1 .left) (search needs))
 
 pub ring-square-spec : {M : Type 1} → statement M
 unfolding leastOfRing
