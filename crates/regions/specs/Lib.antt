@@ -10,5 +10,6 @@ pub mod Pillars
 pub mod Facts
 pub mod Sizes
 pub mod Sides
+pub mod Walk
 pub mod Turns
 pub mod Four

@@ -6,9 +6,10 @@ use mathlib.Core.Bool.{Bool, true, false, not, Bool·beq}
 use native.Mathlib.Omega.{arith}
 use native.Mathlib.Nat.{zero-add}
 use lib.Ieee.{Float}
-use borrow.Author.Tests.{lt-ltb, le-ltb}
+use borrow.Author.Tests.{le-ltb}
 use Rattle.glyphs.specs.Points.{Ring, xAt, yAt}
 use Rattle.regions.specs.Ring.{next, prev}
+use Rattle.regions.specs.Walk.{next-is}
 use Rattle.regions.specs.Inside.{intersect, flip, insideAfter}
 
 -- whether the edge i, which runs from the vertex i to the next, is crossed
@@ -42,10 +43,6 @@ differ true true = refl
 differ true false = refl
 differ false true = refl
 differ false false = refl
-
-pub next-is : (n i : ℕ) → i + 1 < n → next n i ≡ i + 1
-unfolding next
-next-is n i h = rw (lt-ltb (i + 1) n h)
 
 last-is : (m : ℕ) → next (suc m) m ≡ 0
 unfolding next

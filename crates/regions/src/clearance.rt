@@ -82,8 +82,8 @@ pub fn with_last(px: f64, py: f64, best: f64, ring: &[f64], half: usize) -> f64
     best
 }
 
-// The least of `start` and the squares of the distances to a ring's edges. Those of the two halves are found side by
-// side.
+// The least of `start` and the squares of the distances to a ring's edges. The two halves are walked side by side, the
+// one at a, the other at b.
 pub fn ring_square(px: f64, py: f64, start: f64, ring: &[f64]) -> f64
     ensures { λ r. ⌜ r ≡ leastOfRing px py start (now (ring .entry)) ⌝ }
 {
@@ -94,11 +94,24 @@ pub fn ring_square(px: f64, py: f64, start: f64, ring: &[f64]) -> f64
     let half = n / 2;
     let mut best = start;
     let mut other = 1.0 / 0.0;
+    let mut ax = vx(ring, 0);
+    let mut ay = vy(ring, 0);
+    let mut bx = vx(ring, half);
+    let mut by = vy(ring, half);
     let mut i = 0;
     while i < half {
-        best = closer_at(px, py, best, ring, i);
-        other = closer_at(px, py, other, ring, half + i);
+        let k = after(n, half + i);
         i += 1;
+        let cx = vx(ring, i);
+        let cy = vy(ring, i);
+        let dx = vx(ring, k);
+        let dy = vy(ring, k);
+        best = closer_edge(px, py, best, ax, ay, cx, cy);
+        other = closer_edge(px, py, other, bx, by, dx, dy);
+        ax = cx;
+        ay = cy;
+        bx = dx;
+        by = dy;
     }
     lesser(with_last(px, py, other, ring, half), best)
 }

@@ -1,6 +1,6 @@
 -- `ring_clearance` meets its contract. The invariant: leasts and turns are those of the definitions after i edges of each half.
 -- Rests on the laws of a ring's two parts, and on the contracts of what it calls.
-use Prim.Native.Nat.{ℕ, _+_, _≤_, _<_, _-_, _/_}
+use Prim.Native.Nat.{_+_, _≤_, _<_, _-_, _/_}
 use mathlib.Core.Path.{_≡_, refl, sym, ap, _∙_}
 use native.Mathlib.Omega.{arith}
 use native.Mathlib.Nat.{le-antisymm, zero-add}
@@ -8,16 +8,14 @@ use native.Mathlib.Numerals.{add-one}
 use borrow.Author.Needs.{needs}
 use borrow.Author.Tests.{le-ltb}
 use mathlib.Core.Bool.{not, Bool·beq}
-use lib.Ieee.{Float}
 use lib.ListN.{length}
 use Rattle.float.specs.Ops.{∞}
-use Rattle.glyphs.specs.Points.{Ring, xAt, yAt}
-use Rattle.regions.specs.Ring.{next}
-use Rattle.regions.specs.Inside.{intersect, insideAfter, pointInPolygon}
-use Rattle.regions.specs.Clearance.{edgeSquare, squareAt}
+use Rattle.glyphs.specs.Points.{xAt, yAt}
+use Rattle.regions.specs.Inside.{insideAfter, pointInPolygon}
 use Rattle.regions.specs.Squares.{leastAfter, leastFrom, leastOfRing, infinite}
 use Rattle.regions.specs.Least.{of-halves}
-use Rattle.regions.specs.Turns.{crossesAt, turnsFrom, next-is, differ, turns-of-halves}
+use Rattle.regions.specs.Walk.{next-is, in-first, in-second, its-square, its-crossing}
+use Rattle.regions.specs.Turns.{turnsFrom, differ, turns-of-halves}
 use Rattle.regions.proofs.small.ring_clearance.Statement.{statement}
 use Rattle.regions.proofs.small.ring_clearance.Tie as tie
 
@@ -37,27 +35,12 @@ Inv-loop px py ring always n half best₀ other₀ turned₀ turned-other₀ ax�
 abbrev μ-loop : tie.MeasureT-loop
 μ-loop px py ring always n half best₀ other₀ turned₀ turned-other₀ ax₀ ay₀ bx₀ by₀ i₀ best other turned turned-other ax ay bx by i = half - i
 
--- the edges that a turn of the loop looks at
-in-first : (n i : ℕ) → i < n / 2 → i + 1 < n
-in-first n i h = omega arith
-
-in-second : (n i : ℕ) → i < n / 2 → n / 2 + i < n
-in-second n i h = omega arith
-
 loop-holds : tie.Need-loop-holds Inv-loop μ-loop
 unfolding leastAfter leastFrom turnsFrom
 loop-holds c =
     let n = length (c .before .before .before .before .before .args .ring .now) / 2 in
     let e : n / 2 + 0 ≡ n / 2 = omega arith in
     (search needs, refl, refl, infinite, infinite, refl, refl, c .before .before .before .vx .ensures, c .before .before .vy .ensures, λ h. rw e (c .before .vx2 .ensures, c .vy2 .ensures))
-
--- an edge by its ends
-module _ (px py : Float) (ring : Ring) (n i : ℕ) (ax ay bx by : Float) (p : ax ≡ xAt ring i) (q : ay ≡ yAt ring i) (r : bx ≡ xAt ring (next n i)) (s : by ≡ yAt ring (next n i)) where
-  its-square : edgeSquare px py ax ay bx by ≡ squareAt px py ring n i
-  its-square = rw (p, q, r, s)
-
-  its-turn : intersect px py bx by ax ay ≡ crossesAt px py ring n i
-  its-turn = rw (p, q, r, s)
 
 loop-again : tie.Need-loop-again Inv-loop μ-loop
 unfolding leastAfter leastFrom turnsFrom
@@ -83,8 +66,8 @@ loop-again c =
       refl,
       rw (add-one, ← l .inv .3, ← its-square (a .px) (a .py) ring n (l .i) _ _ _ _ (l .inv .7) (l .inv .8) nx ny) (edges .closer-edge .ensures),
       rw (add-one, ← l .inv .4, ← its-square (a .px) (a .py) ring n (n / 2 + l .i) _ _ _ _ (b .0) (b .1) dx dy) (c .before .before .closer-edge2 .ensures),
-      rw (add-one, zero-add, ← l .inv .5, ← its-turn (a .px) (a .py) ring n (l .i) _ _ _ _ (l .inv .7) (l .inv .8) nx ny) (c .before .turned-by .ensures),
-      rw (add-one, ← l .inv .6, ← its-turn (a .px) (a .py) ring n (n / 2 + l .i) _ _ _ _ (b .0) (b .1) dx dy) (c .turned-by2 .ensures),
+      rw (add-one, zero-add, ← l .inv .5, ← its-crossing (a .px) (a .py) ring n (l .i) _ _ _ _ (l .inv .7) (l .inv .8) nx ny) (c .before .turned-by .ensures),
+      rw (add-one, ← l .inv .6, ← its-crossing (a .px) (a .py) ring n (n / 2 + l .i) _ _ _ _ (b .0) (b .1) dx dy) (c .turned-by2 .ensures),
       cx,
       cy,
       λ h.
