@@ -1,13 +1,15 @@
--- Marks as a list of their coordinates, x and y in turn: the points of such a list, the list of points, and whether a place keeps a distance from all.
+-- Marks as a list of their coordinates, x and y in turn: the points of such a list, the list of points, whether a place keeps a distance from one, and from how many it does not.
 -- The laws let code go between the two. Rests on the kit's laws of lists.
 use mathlib.Core.Path.{_≡_, refl, ap}
-use mathlib.Core.Bool.{Bool}
+use mathlib.Core.Bool.{Bool, not}
 use mathlib.Core.List.{List, [], _∷_}
-use Prim.Native.Nat.{ℕ, zero, suc, _+_, _*_, _/_, _<_}
+use Prim.Native.Nat.{ℕ, zero, suc, _+_, _*_, _/_, _<_, _≤_}
 use native.Mathlib.Omega.{arith}
-use lib.ListN.{length, getD, take, drop, set, length-set}
-use lib.Seq.{take-nil, drop-nil}
+use native.Mathlib.Numerals.{add-one}
+use lib.ListN.{length, getD, take, drop, set, length-set, drop-of-length-le}
+use lib.Seq.{take-nil, drop-nil, drop-cons}
 use lib.Ieee.{Float, nan}
+use mir.Val.{boolByte}
 use Rattle.float.specs.Ops.{_+ᶠ_, _-ᶠ_, _*ᶠ_, _≥ᶠ_}
 use Rattle.glyphs.specs.declared.rect.Point.{Point}
 
@@ -30,6 +32,11 @@ flat (p ∷ ps) = p .x ∷ p .y ∷ flat ps
 -- (x - q.x()).powi(2) + (y - q.y()).powi(2) >= least
 unfoldable pub apart : Float → Float → Float → Point → Bool
 apart x y least q = (x -ᶠ q .x) *ᶠ (x -ᶠ q .x) +ᶠ (y -ᶠ q .y) *ᶠ (y -ᶠ q .y) ≥ᶠ least
+
+-- how many of the points are nearer than that
+unfoldable pub nearCount : Float → Float → Float → List Point → ℕ
+nearCount x y least [] = 0
+nearCount x y least (q ∷ qs) = boolByte (not (apart x y least q)) + nearCount x y least qs
 
 -- ---- laws
 
@@ -96,3 +103,13 @@ spots-drop zero l = refl
 spots-drop (suc i) [] = rw (drop-nil, drop-nil)
 spots-drop (suc i) (x ∷ []) = rw (twice, drop-nil)
 spots-drop (suc i) (x ∷ y ∷ l) = rw twice (spots-drop i l)
+
+-- the count over what is left, for a loop that counts up
+module _ (x y least : Float) (l : List Point) (i : ℕ) where
+  pub near-step : (d : Point) → i < length l → nearCount x y least (drop i l) ≡ boolByte (not (apart x y least (getD l i d))) + nearCount x y least (drop (i + 1) l)
+  unfolding nearCount
+  near-step d h = rw (add-one, drop-cons l i d)
+
+  pub near-end : length l ≤ i → nearCount x y least (drop i l) ≡ 0
+  unfolding nearCount
+  near-end h = rw drop-of-length-le

@@ -3,7 +3,7 @@ ghost use mathlib.Core.Path.{_≡_};
 ghost use Prim.Native.Nat.{_+_, _/_, _≤_, _<_};
 ghost use lib.ListN.{length, take, drop};
 ghost use Rattle.laws.specs.Any.{all};
-ghost use Rattle.glyphs.specs.Spots.{spotAt, putSpot, spotsOf, apart};
+ghost use Rattle.glyphs.specs.Spots.{spotAt, putSpot, spotsOf, apart, nearCount};
 use crate::rect::Point;
 
 // Mark `i`.
@@ -80,13 +80,23 @@ pub fn apart_from_all(x: f64, y: f64, least: f64, spots: &[f64]) -> bool
         k += 8;
     }
     let mut ok = true;
-    while n - k >= 8 {
-        ok = ok & apart_from_eight(x, y, least, spots, k);
-        k += 8;
-    }
     while k < n {
         ok = ok & apart(x, y, least, spot(spots, k));
         k += 1;
     }
     ok
+}
+
+// How many of the marks are too near for that, with no branch.
+pub fn count_near(x: f64, y: f64, least: f64, spots: &[f64]) -> usize
+    ensures { λ r. ⌜ r ≡ nearCount x y least (spotsOf (now (spots .entry))) ⌝ }
+{
+    let n = spots.len() / 2;
+    let mut count = 0;
+    let mut k = 0;
+    while k < n {
+        count += (!apart(x, y, least, spot(spots, k))) as usize;
+        k += 1;
+    }
+    count
 }

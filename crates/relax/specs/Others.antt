@@ -1,4 +1,4 @@
--- The other marks are those before mark i and those after it; marks too far away push nothing, so that those near enough may be gathered; and the order of an acceptance's tests does not matter.
+-- The other marks are those before mark i and those after it; none of them is too near where no more are than mark i alone; marks too far away push nothing, so that those near enough may be gathered; and the order of an acceptance's tests does not matter.
 -- Rests on the definitions and the laws of `all`.
 use mathlib.Core.Path.{_≡_, refl, sym, ap, _∙_}
 use mathlib.Core.Bool.{Bool, true, false, not, cond, _&&_, _||_, and-assoc, or-true}
@@ -7,7 +7,8 @@ use Prim.Native.Nat.{ℕ, zero, suc, _+_, _<_}
 use native.Mathlib.Omega.{arith}
 use native.Mathlib.Numerals.{add-one}
 use native.Mathlib.Nat.{zero-add, le-refl}
-use lib.ListN.{length, take, drop, set, length-set}
+use lib.Dec.{eqb}
+use lib.ListN.{length, getD, take, drop, set, length-set}
 use lib.Seq.{take-set-le, getD-set-same}
 use lib.Ieee.{Float}
 use mir.Val.{boolByte}
@@ -20,7 +21,7 @@ use Rattle.float.specs.Order.{sqrt}
 use Rattle.glyphs.specs.declared.rect.Point.{Point}
 use Rattle.glyphs.specs.declared.rect.Rectangle.{Rectangle}
 use Rattle.glyphs.specs.Rect.{clearOfObstacles}
-use Rattle.glyphs.specs.Spots.{apart}
+use Rattle.glyphs.specs.Spots.{apart, nearCount}
 use Rattle.regions.specs.Ring.{Piece}
 use Rattle.regions.specs.Clearance.{signedClearance}
 use Rattle.regions.specs.Margin.{marginOf, least-of-margin}
@@ -53,6 +54,43 @@ pub clear-others :
     (x y least : Float) (i : ℕ) (points : List Point) → i < length points
     → clearOfOthers x y least i 0 points ≡ all (apart x y least) (take i points) && all (apart x y least) (drop (i + 1) points)
 clear-others x y least i points h = ap (λ (k : ℕ). clearOfOthers x y least k 0 points) (sym (zero-add i)) ∙ clear-from x y least i 0 points h ∙ rw add-one
+
+-- a sum is one of its parts where the others are 0
+own-alone : (before own after : ℕ) → eqb before 0 && eqb after 0 ≡ eqb (before + (own + after)) own
+own-alone zero own zero = sym (eq-eqb (0 + (own + 0)) own (omega arith))
+own-alone zero own (suc after) = rw (ne-eqb (suc after) 0 (λ e. omega arith), ne-eqb (0 + (own + suc after)) own (λ e. omega arith))
+own-alone (suc before) own after = rw (ne-eqb (suc before) 0 (λ e. omega arith), ne-eqb (suc before + (own + after)) own (λ e. omega arith))
+
+module _ (x y least : Float) where
+  none-near : (qs : List Point) → all (apart x y least) qs ≡ eqb (nearCount x y least qs) 0
+  unfolding all nearCount
+  none-near [] = refl
+  none-near (q ∷ qs) = go (apart x y least q) (none-near qs)
+    where
+      go :
+          (b : Bool) → all (apart x y least) qs ≡ eqb (nearCount x y least qs) 0
+          → b && all (apart x y least) qs ≡ eqb (boolByte (not b) + nearCount x y least qs) 0
+      go true e = rw zero-add e
+      go false e = sym (ne-eqb (1 + nearCount x y least qs) 0 (λ z. omega arith))
+
+  -- the marks before mark i, it, and those after it
+  near-parts :
+      (i : ℕ) (qs : List Point) (d : Point) → i < length qs
+      → nearCount x y least qs
+      ≡ nearCount x y least (take i qs) + (boolByte (not (apart x y least (getD qs i d))) + nearCount x y least (drop (suc i) qs))
+  unfolding nearCount
+  near-parts i [] d h = absurd (omega arith)
+  near-parts zero (q ∷ qs) d h = sym (zero-add _)
+  near-parts (suc i) (q ∷ qs) d h = omega (arith, near-parts i qs d (omega arith))
+
+  -- no other mark is too near where no more are than mark i alone
+  pub clear-counted :
+      (i : ℕ) (points : List Point) (d : Point) → i < length points
+      → clearOfOthers x y least i 0 points ≡ eqb (nearCount x y least points) (boolByte (not (apart x y least (getD points i d))))
+  clear-counted i points d h =
+      clear-others x y least i points h
+      ∙ rw (none-near (take i points), none-near, add-one, near-parts i points d h)
+      (own-alone (nearCount x y least (take i points)) (boolByte (not (apart x y least (getD points i d)))) (nearCount x y least (drop (suc i) points)))
 
 -- ---- the pushes
 

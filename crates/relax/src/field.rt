@@ -13,7 +13,9 @@ use crate::Spreading;
 use crate::push::Force;
 use crate::push::push_others;
 use glyphs::rect::Point;
+use glyphs::spots::apart;
 use glyphs::spots::apart_from_all;
+use glyphs::spots::count_near;
 use glyphs::spots::spot;
 use glyphs::spots::spots_after;
 use glyphs::spots::spots_before;
@@ -119,20 +121,26 @@ impl Field {
         requires { ⌜ (i < length (now spots) / 2) × (0 < length (now sizes)) × (sum (now sizes) * 2 ≤ length (now coords)) × Sound self ⌝ }
         ensures { λ r. ⌜ r ≡ forceOn self (pieceOf (now (sizes .entry)) (now (coords .entry))) i (spotsOf (now (spots .entry))) (rooted unrooted) ⌝ }
     {
-        let f = push_others(self.influence, i, spots);
+        // The gradient stands first: the others' pushes are worked out while its roots are waited for.
         if rooted_below(unrooted, self.reach) & (self.boundary_reach > 0.0) {
             let gradient = self.clearance_gradient(spot(spots, i), sizes, coords);
+            let f = push_others(self.influence, i, spots);
             return self.push_inward(rooted(unrooted), gradient, f);
         }
-        f
+        push_others(self.influence, i, spots)
     }
 
-    // Whether a place keeps the spacing to all marks but mark `i`.
+    // Whether a place keeps the spacing to all marks but mark `i`. Of few marks those too near are counted, mark `i` among
+    // them, with no branch.
     fn clear_of_others(self, place: Point, i: usize, spots: &[f64]) -> bool
         requires { ⌜ i < length (now spots) / 2 ⌝ }
         ensures { λ r. ⌜ r ≡ clearOfOthers (place .x) (place .y) (self .spacing *ᶠ self .spacing) i 0 (spotsOf (now (spots .entry))) ⌝ }
     {
         let least = self.spacing * self.spacing;
+        if spots.len() <= 64 {
+            let own = !apart(place.x, place.y, least, spot(spots, i));
+            return count_near(place.x, place.y, least, spots) == own as usize;
+        }
         let before = apart_from_all(place.x, place.y, least, spots_before(spots, i));
         before & apart_from_all(place.x, place.y, least, spots_after(spots, i))
     }

@@ -75,6 +75,23 @@ fn push_two(influence: f64, p: Point, f: Force, q: Point, r: Point) -> Force
     push(influence, p, push(influence, p, f, q), r)
 }
 
+// The pushes of all marks of a slice, two at a time.
+fn push_near(influence: f64, p: Point, start: Force, spots: &[f64]) -> Force
+    ensures { λ r. ⌜ r ≡ foldl (pushOf influence p) start (spotsOf (now (spots .entry))) ⌝ }
+{
+    let n = spots.len() / 2;
+    let mut f = start;
+    let mut k = 0;
+    while n - k >= 2 {
+        f = push_two(influence, p, f, spot(spots, k), spot(spots, k + 1));
+        k += 2;
+    }
+    if k < n {
+        return push(influence, p, f, spot(spots, k));
+    }
+    f
+}
+
 // The pushes of the eight marks from mark `k` on. Mostly all are too far away.
 fn push_eight(influence: f64, p: Point, start: Force, spots: &[f64], k: usize) -> Force
     requires { ⌜ k + 8 ≤ length (now spots) / 2 ⌝ }
@@ -83,16 +100,12 @@ fn push_eight(influence: f64, p: Point, start: Force, spots: &[f64], k: usize) -
     if apart_from_eight(p.x, p.y, influence * influence, spots, k) {
         return start;
     }
-    let mut f = start;
-    let mut j = 0;
-    while j < 8 {
-        f = push_two(influence, p, f, spot(spots, k + j), spot(spots, k + j + 1));
-        j += 2;
-    }
-    f
+    let a = k * 2;
+    let e = a + 16;
+    push_near(influence, p, start, &spots[a..e])
 }
 
-// The pushes of all marks of a slice.
+// The pushes of all marks of a slice. Mostly they are too far away.
 fn push_all(influence: f64, p: Point, start: Force, spots: &[f64]) -> Force
     ensures { λ r. ⌜ r ≡ foldl (pushOf influence p) start (spotsOf (now (spots .entry))) ⌝ }
 {
@@ -103,14 +116,8 @@ fn push_all(influence: f64, p: Point, start: Force, spots: &[f64]) -> Force
         f = push_eight(influence, p, f, spots, k);
         k += 8;
     }
-    while n - k >= 2 {
-        f = push_two(influence, p, f, spot(spots, k), spot(spots, k + 1));
-        k += 2;
-    }
-    if k < n {
-        return push(influence, p, f, spot(spots, k));
-    }
-    f
+    let a = k * 2;
+    push_near(influence, p, f, &spots[a..])
 }
 
 // Puts the marks of a slice that are near enough to push behind the `m` of a list, and answers how many there are then.
@@ -141,7 +148,7 @@ fn push_few(influence: f64, p: Point, i: usize, spots: &[f64]) -> Force
     let mut near = [0.0; 64];
     let before = gather(influence, p, spots_before(spots, i), &mut near[..], 0);
     let all = gather(influence, p, spots_after(spots, i), &mut near[..], before);
-    push_all(influence, p, Force { x: 0.0, y: 0.0 }, &near[..all * 2])
+    push_near(influence, p, Force { x: 0.0, y: 0.0 }, &near[..all * 2])
 }
 
 // The pushes of all other marks on mark `i`.

@@ -1,4 +1,4 @@
--- `apart_from_all` meets its contract. The invariant of the loops: the answer is that of the marks from mark k on, and of `ok` in the later ones.
+-- `apart_from_all` meets its contract. The invariant of the loops: the answer is that of the marks from mark k on, and of `ok` in the second.
 -- Rests on the laws of `all` over a block, over one element and over none.
 use mathlib.Core.Path.{_≡_, refl, sym, _∙_}
 use mathlib.Core.Bool.{_&&_, and-true, and-assoc}
@@ -27,41 +27,26 @@ Inv-loop2 x y least spots n k₀ ok₀ k ok =
 abbrev μ-loop2 : tie.MeasureT-loop2
 μ-loop2 x y least spots n k₀ ok₀ k ok = n - k
 
-abbrev Inv-loop3 : tie.InvT-loop3
-Inv-loop3 x y least spots n k₀ ok₀ k ok =
-    (k ≤ n) × (n ≡ length spots / 2) × (all (apart x y least) (spotsOf spots) ≡ ok && all (apart x y least) (drop k (spotsOf spots)))
-
-abbrev μ-loop3 : tie.MeasureT-loop3
-μ-loop3 x y least spots n k₀ ok₀ k ok = n - k
-
-loop-holds : tie.Need-loop-holds Inv-loop μ-loop Inv-loop2 μ-loop2 Inv-loop3 μ-loop3
+loop-holds : tie.Need-loop-holds Inv-loop μ-loop Inv-loop2 μ-loop2
 loop-holds c = (search needs, search needs, refl)
 
-returns : tie.Need-returns Inv-loop μ-loop Inv-loop2 μ-loop2 Inv-loop3 μ-loop3
+returns : tie.Need-returns Inv-loop μ-loop Inv-loop2 μ-loop2
 returns c =
     let e = c .before .apart-from-eight in
     rw (c .before .before .before .loop .inv .2, all-block _ 8 _ _, ← e .ensures, not-true (e .result) (c .if1 .taken))
 
-loop-again : tie.Need-loop-again Inv-loop μ-loop Inv-loop2 μ-loop2 Inv-loop3 μ-loop3
+loop-again : tie.Need-loop-again Inv-loop μ-loop Inv-loop2 μ-loop2
 loop-again c =
     let e = c .before .apart-from-eight in
     (search needs, search needs, rw (c .before .before .before .loop .inv .2, all-block _ 8 _ _, ← e .ensures, not-false (e .result) (c .if1 .left)))
 
-loop2-holds : tie.Need-loop2-holds Inv-loop μ-loop Inv-loop2 μ-loop2 Inv-loop3 μ-loop3
+loop2-holds : tie.Need-loop2-holds Inv-loop μ-loop Inv-loop2 μ-loop2
 loop2-holds c = c .before .loop .inv
 
-loop2-again : tie.Need-loop2-again Inv-loop μ-loop Inv-loop2 μ-loop2 Inv-loop3 μ-loop3
+loop2-again : tie.Need-loop2-again Inv-loop μ-loop Inv-loop2 μ-loop2
 loop2-again c =
-    let l = c .before .before .loop2 in
-    (search needs, search needs, l .inv .2 ∙ rw (all-block _ 8 (l .k) _, ← c .apart-from-eight2 .ensures) (sym (and-assoc (l .ok) _ _)))
-
-loop3-holds : tie.Need-loop3-holds Inv-loop μ-loop Inv-loop2 μ-loop2 Inv-loop3 μ-loop3
-loop3-holds c = c .before .loop2 .inv
-
-loop3-again : tie.Need-loop3-again Inv-loop μ-loop Inv-loop2 μ-loop2 Inv-loop3 μ-loop3
-loop3-again c =
-    let l = c .before .before .before .loop3 in
-    let s = c .before .before .before .before .before .before .before .before .before .args .spots .now in
+    let l = c .before .before .before .loop2 in
+    let s = c .before .before .before .before .before .before .before .args .spots .now in
     let q = c .before .spot in
     let h : l .k < length (spotsOf s) = simp length-spots (omega arith) in (
       search needs,
@@ -70,17 +55,17 @@ loop3-again c =
           ∙ rw (all-step _ _ _ (q .result) h, spots-at s (l .k) (q .result) (omega arith), ← q .ensures, ← c .apart .ensures) (sym (and-assoc (l .ok) _ _)),
     )
 
-returns-2 : tie.Need-returns-2 Inv-loop μ-loop Inv-loop2 μ-loop2 Inv-loop3 μ-loop3
+returns-2 : tie.Need-returns-2 Inv-loop μ-loop Inv-loop2 μ-loop2
 returns-2 c =
-    let l = c .before .loop3 in
-    let s = c .before .before .before .before .before .before .before .args .spots .now in
+    let l = c .before .loop2 in
+    let s = c .before .before .before .before .before .args .spots .now in
     let h : length (spotsOf s) ≤ l .k = simp length-spots (omega arith) in
     rw (l .inv .2, all-end _ _ _ h, and-true)
 
 pub apart-from-all-spec : {M : Type 1} → statement M
 apart-from-all-spec =
     tie.close
-    (tie.spec Inv-loop μ-loop Inv-loop2 μ-loop2 Inv-loop3 μ-loop3
+    (tie.spec Inv-loop μ-loop Inv-loop2 μ-loop2
     loop-holds
     (λ c. search needs)
     (λ c κs. search needs)
@@ -89,15 +74,9 @@ apart-from-all-spec =
     (λ c. search needs)
     loop-again
     loop2-holds
-    (λ c. search needs)
+    (λ c κs. search needs)
     (λ c κs. search needs)
     (λ c. search needs)
     (λ c. search needs)
     loop2-again
-    loop3-holds
-    (λ c κs. search needs)
-    (λ c κs. search needs)
-    (λ c. search needs)
-    (λ c. search needs)
-    loop3-again
     returns-2)

@@ -43,7 +43,7 @@ room c =
     let g = c .before .before .before .before in
     omega (arith, before (g .before .before), after (c .before .before), g .gather .ensures .0, g .gather .ensures .1, c .gather2 .ensures .0, c .gather2 .ensures .1)
 
-aggregate : tie.Need-slice-aggregate-push-all
+aggregate : tie.Need-slice-aggregate-push-near
 aggregate c = sym (length-take-le _ _ (room (c .before .before)))
 
 returns : tie.Need-returns
@@ -54,7 +54,7 @@ returns c =
     let earlier = first .before .before in
     let a = earlier .before .before .args in
     let g : Force → Point → Force = pushOf (a .influence) (a .p) in
-    c .push-all .ensures
+    c .push-near .ensures
     ∙ ap (foldl g noForce) (spots-take (second .gather2 .result) (second .gather2 .last .1 .1 .1 .0))
     ∙ second .gather2 .ensures .2 noForce
     ∙ ap (λ (x : Force). foldl g x (spotsOf (later .spots-after .result .now))) (first .gather .ensures .2 noForce ∙ ap (foldl g noForce) (earlier .spots-before .ensures))
