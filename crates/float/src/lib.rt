@@ -9,7 +9,9 @@ pub use wide::wrapping_mul;
 // The square root.
 mod roots;
 
+pub use roots::FourRoots;
 pub use roots::Two;
+pub use roots::four_roots;
 pub use roots::hypot;
 pub use roots::root;
 pub use roots::two_roots;

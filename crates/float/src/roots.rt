@@ -6,6 +6,7 @@ ghost use lib.Dec.{T};
 ghost use lib.Ieee.{binary64, ofBits};
 ghost use Rattle.float.specs.Root.{Near, nearestRoot, rootOf};
 ghost use Rattle.float.specs.Order.{sqrt, hypot};
+ghost use Rattle.float.specs.Laws.Pattern.{Normal};
 use crate::wide::high_mul;
 use crate::wide::wrapping_mul;
 
@@ -115,10 +116,15 @@ fn is_root(bits: u64, guess: f64) -> bool
     false
 }
 
-fn is_normal(bits: u64) -> bool
-    ensures { λ b. ⌜ (T b → (2 ^ 52 ≤ bits) × (bits < 0x7ff0_0000_0000_0000)) ⌝ }
+// Whether x is above zero, and neither subnormal nor infinite.
+fn is_normal(x: f64) -> bool
+    ensures { λ b. ⌜ (T b → Normal x) ⌝ }
 {
-    (bits >= 0x10_0000_0000_0000) & (bits < 0x7ff0_0000_0000_0000)
+    if x > 0.0 {
+        let bits = f64::to_bits(x);
+        return (bits >= 0x10_0000_0000_0000) & (bits < 0x7ff0_0000_0000_0000);
+    }
+    false
 }
 
 // The root of a finite x above zero from its bit pattern, its digits found one at a time. A pattern below 2^52 is a
@@ -159,13 +165,11 @@ fn unguessed_root(x: f64) -> f64
 pub fn root(x: f64) -> f64
     ensures { λ r. ⌜ r ≡ sqrt x ⌝ }
 {
-    if x > 0.0 {
+    if is_normal(x) {
         let bits = f64::to_bits(x);
-        if is_normal(bits) {
-            let guess = root_guess(bits);
-            if is_root(bits, guess) {
-                return guess;
-            }
+        let guess = root_guess(bits);
+        if is_root(bits, guess) {
+            return guess;
         }
     }
     unguessed_root(x)
@@ -188,19 +192,50 @@ pub struct Two {
 pub fn two_roots(x: f64, y: f64) -> Two
     ensures { λ r. ⌜ (r .a ≡ sqrt x) × (r .b ≡ sqrt y) ⌝ }
 {
-    if (x > 0.0) & (y > 0.0) {
+    if is_normal(x) & is_normal(y) {
         let p = f64::to_bits(x);
         let q = f64::to_bits(y);
-        if is_normal(p) & is_normal(q) {
-            let a = root_guess(p);
-            let b = root_guess(q);
-            if is_root(p, a) & is_root(q, b) {
-                return Two { a, b };
-            }
+        let a = root_guess(p);
+        let b = root_guess(q);
+        if is_root(p, a) & is_root(q, b) {
+            return Two { a, b };
         }
     }
     Two {
         a: root(x),
         b: root(y),
+    }
+}
+
+// A root of each of four floats.
+pub struct FourRoots {
+    pub a: f64,
+    pub b: f64,
+    pub c: f64,
+    pub d: f64,
+}
+
+// All four roots, likewise.
+pub fn four_roots(x: f64, y: f64, z: f64, w: f64) -> FourRoots
+    ensures { λ r. ⌜ (r .a ≡ sqrt x) × (r .b ≡ sqrt y) × (r .c ≡ sqrt z) × (r .d ≡ sqrt w) ⌝ }
+{
+    if (is_normal(x) & is_normal(y)) & (is_normal(z) & is_normal(w)) {
+        let p = f64::to_bits(x);
+        let q = f64::to_bits(y);
+        let r = f64::to_bits(z);
+        let s = f64::to_bits(w);
+        let a = root_guess(p);
+        let b = root_guess(q);
+        let c = root_guess(r);
+        let d = root_guess(s);
+        if (is_root(p, a) & is_root(q, b)) & (is_root(r, c) & is_root(s, d)) {
+            return FourRoots { a, b, c, d };
+        }
+    }
+    FourRoots {
+        a: root(x),
+        b: root(y),
+        c: root(z),
+        d: root(w),
     }
 }

@@ -214,12 +214,11 @@ pub fn four_clearances(
     };
     let squares = rings_squares(xs, ys, sizes, coords);
     let inside = in_piece(xs, ys, sizes, coords);
-    let first = float::two_roots(squares.a, squares.b);
-    let second = float::two_roots(squares.c, squares.d);
+    let roots = float::four_roots(squares.a, squares.b, squares.c, squares.d);
     Four {
-        a: float::negate_unless(first.a, inside.a),
-        b: float::negate_unless(first.b, inside.b),
-        c: float::negate_unless(second.a, inside.c),
-        d: float::negate_unless(second.b, inside.d),
+        a: float::negate_unless(roots.a, inside.a),
+        b: float::negate_unless(roots.b, inside.b),
+        c: float::negate_unless(roots.c, inside.c),
+        d: float::negate_unless(roots.d, inside.d),
     }
 }

@@ -19,6 +19,10 @@ use Rattle.float.specs.Laws.Nan.{Number, lt-number}
 use Rattle.float.specs.Laws.Compare.{le-says, lt-le, lt-not-le, le-self}
 use Rattle.float.specs.Laws.Zero.{Plain}
 
+-- a number whose pattern is that of a normal one above zero
+abbrev pub Normal : Float → Type 0
+Normal x = Number x × (2 ^ 52 ≤ toBits binary64 x) × (toBits binary64 x < 0x7ff0_0000_0000_0000)
+
 -- ---- a finite value's pattern is below the infinity's
 bound : (m : ℕ) (e : ℤ) → T (fits binary64 (fin false m e)) → m * up e < 2 ^ 1024 * down e
 unfolding fits

@@ -22,23 +22,22 @@ whole x y square root inside piece e f g h = rw (h, f, e, g, least-root)
 returns : tie.Need-returns
 unfolding at told
 returns c first =
-    let p = c .before .before .before .before .before in
-    whole _ _ _ _ _ _ (p .before .before .rings-squares .ensures first) (p .two-roots .ensures .0) (p .before .in-piece .ensures first) (c .before .before .before .negate-unless .ensures)
+    let p = c .before .before .before .before in
+    whole _ _ _ _ _ _ (p .before .before .rings-squares .ensures first) (p .four-roots .ensures .0) (p .before .in-piece .ensures first) (c .before .before .before .negate-unless .ensures)
 returns c second =
-    let p = c .before .before .before .before .before in
-    whole _ _ _ _ _ _ (p .before .before .rings-squares .ensures second) (p .two-roots .ensures .1) (p .before .in-piece .ensures second) (c .before .before .negate-unless2 .ensures)
+    let p = c .before .before .before .before in
+    whole _ _ _ _ _ _ (p .before .before .rings-squares .ensures second) (p .four-roots .ensures .1) (p .before .in-piece .ensures second) (c .before .before .negate-unless2 .ensures)
 returns c third =
-    let q = c .before .before .before .before in
-    whole _ _ _ _ _ _ (q .before .before .before .rings-squares .ensures third) (q .two-roots2 .ensures .0) (q .before .before .in-piece .ensures third) (c .before .negate-unless3 .ensures)
+    let p = c .before .before .before .before in
+    whole _ _ _ _ _ _ (p .before .before .rings-squares .ensures third) (p .four-roots .ensures .2) (p .before .in-piece .ensures third) (c .before .negate-unless3 .ensures)
 returns c fourth =
-    let q = c .before .before .before .before in
-    whole _ _ _ _ _ _ (q .before .before .before .rings-squares .ensures fourth) (q .two-roots2 .ensures .1) (q .before .before .in-piece .ensures fourth) (c .negate-unless4 .ensures)
+    let p = c .before .before .before .before in
+    whole _ _ _ _ _ _ (p .before .before .rings-squares .ensures fourth) (p .four-roots .ensures .3) (p .before .in-piece .ensures fourth) (c .negate-unless4 .ensures)
 
 pub four-clearances-spec : {M : Type 1} → statement M
 four-clearances-spec =
     tie.close
     (tie.spec
-    (λ c κs. search needs)
     (λ c κs. search needs)
     (λ c κs. search needs)
     (λ c κs. search needs)

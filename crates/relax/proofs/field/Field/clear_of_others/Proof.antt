@@ -26,7 +26,13 @@ returns-2 : tie.Need-returns-2
 returns-2 c =
     let a = c .before .before .before .before .before .before .before .args in
     let h : a .i < length (spotsOf (a .spots .now)) = simp length-spots (omega arith) in
-    rw (clear-others _ _ _ (a .i) (spotsOf (a .spots .now)) h) (cc)
+    rw (
+      clear-others _ _ _ (a .i) (spotsOf (a .spots .now)) h,
+      ← c .before .before .before .spots-before .ensures,
+      ← c .before .spots-after .ensures,
+      ← c .before .before .apart-from-all .ensures,
+      ← c .apart-from-all2 .ensures,
+    )
 
 pub clear-of-others-spec : {M : Type 1} → statement M
 clear-of-others-spec =
