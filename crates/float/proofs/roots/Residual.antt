@@ -29,8 +29,8 @@ high-fits r h b l e =
     let q : h < 2 ^ 44 = omega (arith, mul-le-mul p p) in
     omega (arith, q, flag-le b)
 
-pub rest-fits : (r d : ℕ) → r < 2 ^ 54 → d ≤ r + 2 ^ 53 → d + r < 2 ^ 64
-rest-fits r d l h = omega arith
+pub rest-fits : (r d k : ℕ) → r < 2 ^ 54 → k < 2 ^ 60 → d ≤ r + k → d + r < 2 ^ 64
+rest-fits r d k l m h = omega arith
 
 -- ---- r is nearest where that is 2 ^ 53, give or take r, of 2 ^ 53 more
 pub nearest : (y r d : ℕ) → r * r + d ≡ y + 2 ^ 53 → 2 ^ 53 < d + r → d ≤ r + 2 ^ 53 → Near y r

@@ -18,7 +18,7 @@ add-if1 c =
 add-result : tie.Need-add-result
 add-result c =
     let s = c .before .before .before .before .before in
-    record { fits = rest-fits (s .args .r) _ (s .pre .1) (c .if2 .left) }
+    record { fits = rest-fits (s .args .r) _ _ (s .pre .1) (omega arith) (c .if2 .left) }
 
 returns-3 : tie.Need-returns-3
 returns-3 c t =
