@@ -54,8 +54,8 @@ fn root_guess(pattern: u64) -> f64
     s + (lack + lack * (rest * (h * h)))
 }
 
-// Whether r is the whole number nearest to √(m * 2^52). `rest` is (m + 2) * 2^52 - r * r where `high` and the borrow
-// are the upper half of (m + 2) * 2^52: the nearest is r where that is 2^53, give or take r.
+// Whether r is seen to be the whole number nearest to √(m * 2^52). `rest` is (m + 2) * 2^52 - r * r where `high` and the
+// borrow are the upper half of (m + 2) * 2^52: the nearest is r where that is 2^53, give or take r.
 fn is_nearest(m: u64, r: u64) -> bool
     requires { ⌜ m < 2 ^ 54 ⌝ ∗ ⌜ r < 2 ^ 54 ⌝ }
     ensures { λ b. ⌜ (T b → Near (m * 2 ^ 52) r) ⌝ }

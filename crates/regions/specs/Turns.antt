@@ -9,12 +9,8 @@ use lib.Ieee.{Float}
 use borrow.Author.Tests.{le-ltb}
 use Rattle.glyphs.specs.Points.{Ring, xAt, yAt}
 use Rattle.regions.specs.Ring.{next, prev}
-use Rattle.regions.specs.Walk.{next-is}
+use Rattle.regions.specs.Walk.{crossesAt, next-is}
 use Rattle.regions.specs.Inside.{intersect, flip, insideAfter}
-
--- whether the edge i, which runs from the vertex i to the next, is crossed
-abbrev pub crossesAt : Float → Float → Ring → ℕ → ℕ → Bool
-crossesAt x y v n i = intersect x y (xAt v (next n i)) (yAt v (next n i)) (xAt v i) (yAt v i)
 
 -- the turns of the k edges from the edge h on
 unfoldable pub turnsFrom : Float → Float → Ring → ℕ → ℕ → ℕ → Bool

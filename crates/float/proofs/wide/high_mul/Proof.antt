@@ -3,7 +3,7 @@
 use native.Mathlib.Omega.{arith}
 use borrow.Author.Needs.{needs}
 use Prim.Native.Nat.{_*_, _/_, _%_, _≤_}
-use Rattle.float.proofs.wide.Halves.{half-bound, half-product, high-product}
+use Rattle.float.proofs.wide.Halves.{half-bound, high-product}
 use Rattle.float.proofs.wide.high_mul.Statement.{statement}
 use Rattle.float.proofs.wide.high_mul.Tie as tie
 
