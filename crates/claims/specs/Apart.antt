@@ -19,7 +19,7 @@ use Rattle.lattice.specs.declared.context.Lattice.{Lattice}
 use Rattle.lattice.specs.Escape.{point}
 use Rattle.lattice.specs.Lattice.{rem_euclid2, i64_as_f64, through, row_height, is_shifted, row_offset, row_cells, all_cells}
 use Rattle.claims.specs.Kept.{Apart}
-use Rattle.claims.specs.Whole.{every_through, pairwise-through}
+use Rattle.claims.specs.Whole.{every_through, pairwise_through}
 
 same_remainder : (j : ℤ) → rem_euclid j 2 ≡ rem_euclid2 j
 unfolding rem_euclid rem_euclid2
@@ -95,7 +95,7 @@ module _
   unfolding row_cells cell
   one_row j r =
       pairwise_map (Apart s) (λ (i : ℤ). point (anchor.x +ᶠ row_offset lat j +ᶠ i64_as_f64 i *ᶠ s) (anchor.y +ᶠ i64_as_f64 j *ᶠ row_height lat)) (through (i_min j) (i_max j))
-      (pairwise-through (i_min j) (i_max j) (λ (i i' : ℤ). Apart s (place i j) (place i' j))
+      (pairwise_through (i_min j) (i_max j) (λ (i i' : ℤ). Apart s (place i j) (place i' j))
       (λ i i' p q p' q' n. cells_apart s aligned anchor L AX AY i j i' j (cell_reach j i p q) r (cell_reach j i' p' q') r (λ e f. n e)))
 
   rows : (js : List ℤ) → Every RowReach js → Pairwise (λ (j k : ℤ). j ≡ k → ⊥) js → Pairwise (Apart s) (later js)
@@ -116,4 +116,4 @@ module _
       let j-max = as_i64 (ceil ((max-y -ᶠ anchor.y) /ᶠ h)) in
       rows (through j-min j-max)
       (every_through j-min j-max RowReach (λ j p q. along_walk h (row_step s aligned L B).0 (row_step s aligned L B).1 anchor.y min-y max-y AY LY GY j p q))
-      (pairwise-through j-min j-max (λ (j k : ℤ). j ≡ k → ⊥) (λ j k p q p' q' n. n))
+      (pairwise_through j-min j-max (λ (j k : ℤ). j ≡ k → ⊥) (λ j k p q p' q' n. n))

@@ -23,16 +23,16 @@ module _ (s : Bool) (X R g v dx dy : Exact) (a b K : ℕ) (w0 : 0 < a + b) (g-is
   parts true P h = (omega arith, omega arith)
   parts false P h = (omega arith, omega arith)
 
-  crossed-by :
+  crossed_by :
       (s : Bool) (P Q : Exact) (m : ℕ) → P ≈ (X ⊖ R) ⊗ signed (not s) (a + b) → Q ≈ signed (not s) b ⊗ opp R → from_crossing X R a b ≼ nat m → opp (from_crossing X R a b) ≼ nat m
       → (P ⊖ Q ≼ nat m) × (opp (P ⊖ Q) ≼ nat m)
-  crossed-by true P Q m p q h k = (omega arith, omega arith)
-  crossed-by false P Q m p q h k = (omega arith, omega arith)
+  crossed_by true P Q m p q h k = (omega arith, omega arith)
+  crossed_by false P Q m p q h k = (omega arith, omega arith)
 
   pub across : from_crossing X R a b ≼ nat (K * (a + b)) → opp (from_crossing X R a b) ≼ nat (K * (a + b)) → Across g v dx dy (a + b) K
   across h k =
       let p = parts s (v ⊗ dy) (equal_products v (signed (not s) b) dy (signed (not s) (a + b)) v-is dy-is) in
-      let c = crossed-by s (g ⊗ dy) (v ⊗ dx) (K * (a + b)) (equal_products g (X ⊖ R) dy (signed (not s) (a + b)) g-is dy-is) (equal_products v (signed (not s) b) dx (opp R) v-is dx-is) h k in
+      let c = crossed_by s (g ⊗ dy) (v ⊗ dx) (K * (a + b)) (equal_products g (X ⊖ R) dy (signed (not s) (a + b)) g-is dy-is) (equal_products v (signed (not s) b) dx (opp R) v-is dx-is) h k in
       record {
         height = heights s (dy ⊗ dy) (equal_products dy (signed (not s) (a + b)) dy (signed (not s) (a + b)) dy-is dy-is);
         above = w0;

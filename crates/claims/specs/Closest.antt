@@ -38,10 +38,10 @@ spread : (B F : Exact) → B ⊗ (F ⊕ B) ≈ B ⊗ F ⊕ B ⊗ B
 spread B F = omega arith
 
 -- ---- (P, Q) leads from a point of the edge's line to the place, and (dx, dy) along the edge, dy of size w
-sum-up :
+sum_up :
     (AA CC Ac BF BB X Y A' B' : Exact) (a b c m r : ℕ)
     → X ≈ AA ⊕ CC ⊖ Ac ⊖ Ac → Y ≈ BF ⊕ BB → Ac ≈ BF → AA ≈ A' → A' ≈ nat a → BB ≈ B' → B' ≈ nat b → nat c ≈ CC → X ≼ nat m → Y ≼ nat r → a + b ≤ m + 2 * r
-sum-up AA CC Ac BF BB X Y A' B' a b c m r e f g h h' i i' j k l = omega arith
+sum_up AA CC Ac BF BB X Y A' B' a b c m r e f g h h' i i' j k l = omega arith
 
 pub closest :
     (P Q dx dy : Exact) (w m b r : ℕ) → dy ⊗ dy ≈ nat (w * w) → P ⊗ dy ⊖ Q ⊗ dx ≼ nat m → opp (P ⊗ dy ⊖ Q ⊗ dx) ≼ nat m → (Q ⊗ dy) ⊗ (P ⊗ dx ⊕ Q ⊗ dy) ≼ nat (b * r)
@@ -56,7 +56,7 @@ closest P Q dx dy w m b r W h k l =
     let pp : P ⊗ P ≈ nat a = omega (arith, abs_square P) in
     let qq : Q ⊗ Q ≈ nat q = omega (arith, abs_square Q) in
     le_trans (le_of_eq (apart a q (w * w)))
-    (sum-up (A ⊗ A) (C ⊗ C) (A ⊗ C) (B ⊗ F) (B ⊗ B) ((A ⊖ C) ⊗ (A ⊖ C)) (B ⊗ (F ⊕ B)) ((P ⊗ P) ⊗ (dy ⊗ dy)) ((Q ⊗ Q) ⊗ (dy ⊗ dy)) (a * (w * w)) (q * (w * w)) (abs C * abs C) (m * m) (b * r)
+    (sum_up (A ⊗ A) (C ⊗ C) (A ⊗ C) (B ⊗ F) (B ⊗ B) ((A ⊖ C) ⊗ (A ⊖ C)) (B ⊗ (F ⊕ B)) ((P ⊗ P) ⊗ (dy ⊗ dy)) ((Q ⊗ Q) ⊗ (dy ⊗ dy)) (a * (w * w)) (q * (w * w)) (abs C * abs C) (m * m) (b * r)
     (less_square A C) (spread B F) (swapped P dy Q dx) (squares P dy) (times (P ⊗ P) (dy ⊗ dy) a (w * w) pp W) (squares Q dy) (times (Q ⊗ Q) (dy ⊗ dy) q (w * w) qq W) (abs_square C) (square_le (A ⊖ C) m h k) l)
   where
     apart : (a q v : ℕ) → (a + q) * v ≡ a * v + q * v

@@ -13,7 +13,7 @@ use Rattle.regions.specs.Ring.{Piece, outer}
 use Rattle.regions.specs.Facts.{clearance_number}
 use Rattle.relax.specs.declared.Spreading.{Spreading}
 use Rattle.relax.specs.Scatter.{relax_scatter}
-use Rattle.relax.specs.Kept.{length-relaxed}
+use Rattle.relax.specs.Kept.{length_relaxed}
 use Rattle.lattice.specs.declared.context.PackCtx.{PackCtx}
 use Rattle.lattice.specs.Context.{inset, spacing}
 use Rattle.lattice.specs.Uniform.{local_to}
@@ -74,7 +74,7 @@ module _ (numbers : Spreading) (piece : Piece) (n attempts : ℕ) (ctx : PackCtx
       few = thrown_count piece n attempts ctx near min-x max-x min-y max-y rng
 
       go : (b : Bool) → length (cond b (record { placed = relax_scatter numbers thrown.placed piece near (spacing ctx) (inset ctx); rng = thrown.rng }) thrown).placed ≤ n
-      go true = rw (length-relaxed numbers thrown.placed piece near (spacing ctx) (inset ctx)) few
+      go true = rw (length_relaxed numbers thrown.placed piece near (spacing ctx) (inset ctx)) few
       go false = few
 
   pub darts_kept : (rng : Stream) → ctx.mode.spread ≡ true → Kept' (Apart (spacing ctx)) (pack_random_piece numbers piece n attempts ctx obstacles rng).placed

@@ -22,7 +22,7 @@ use Rattle.claims.specs.Straddle.{Edge, inside_between, crossing}
 use Rattle.claims.specs.Crossing.{Crossed, Ordered, ordered, spans, difference}
 use Rattle.claims.specs.Level.{off}
 use Rattle.claims.specs.Beside.{from_crossing, equal_products, across, left_of, right_of}
-use Rattle.claims.specs.Reached.{edge-reached}
+use Rattle.claims.specs.Reached.{edge_reached}
 use Rattle.claims.specs.Within.{vertex_x, vertex_y, prev_within, Placed, edge_crossed, inside_placed}
 
 -- ---- numbers only: the rise w from i to j with its sign, in two parts at y
@@ -89,7 +89,7 @@ module _ (x y xi yi xj yj : Float) (cxi : Coordinate xi) (cyi : Coordinate yi) (
       let I = (coordinate_sized cxi).size in
       let J = (coordinate_sized cxj).size in
       let N = within_of (val x) (val xi) (val xj) (val q) (val c) R a b C.run.value near.0 near.1 O.below O.above (omega arith) (omega arith) (omega arith) (omega arith) side in
-      edge-reached x y xj yj xi yi P.across P.along cxj cyj cxi cyi w1 (a + b)
+      edge_reached x y xj yj xi yi P.across P.along cxj cyj cxi cyi w1 (a + b)
       (across (sgn A) (val x ⊖ val xi) R (val x ⊖ val xj) (val y ⊖ val yj) (val (xi -ᶠ xj)) (val (yi -ᶠ yj)) a b (1025 * U) w0 (omega (arith, C.run.value)) S.rest (omega (arith, run.value, C.run.value)) turn N.0 N.1)
     where
       positive : (n m : ℕ) → 0 < n → m ≡ n * 2 ^ 1064 → 0 < m

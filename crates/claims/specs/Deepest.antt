@@ -27,7 +27,7 @@ use Rattle.deepest.specs.declared.search.Deepest.{Deepest}
 use Rattle.deepest.specs.declared.search.Deepest.TheVariants.{Found, Nothing, Full}
 use Rattle.deepest.specs.Order.{halves_from, half_at, leaves}
 use Rattle.deepest.specs.Deepest.{enter, heft, sum_over, better_of, answer_of, next_corner, first_corner, Grid, waiting, over, make_cell, splits_at, grid_from, enter_four, turns, finish, centre_of, search_in, deepest_point, deeper_of, poi_with_holes}
-use Rattle.claims.specs.Within.{Placed, inset-placed, inset_within}
+use Rattle.claims.specs.Within.{Placed, inset_placed, inset_within}
 use Rattle.claims.specs.Bounded.{clearance_inside}
 
 -- d is the clearance of (x, y)
@@ -122,7 +122,7 @@ deep : (piece : Piece) → PieceKnown piece → (x y d : Float) → Honest piece
 deep piece k x y d h p =
     let l : T (d ≤ᶠ signed_clearance x y piece) = rw (← h.is) (le_self d (lt_number 0ᶠ d p).1) in
     record {
-      placed = inset-placed x y d piece k h.fit_x h.fit_y p l;
+      placed = inset_placed x y d piece k h.fit_x h.fit_y p l;
       sized = rw h.is (clearance_inside x y h.fit_x h.fit_y piece k (inset_within x y d piece p l));
       above = p;
     }

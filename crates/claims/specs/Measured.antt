@@ -25,7 +25,7 @@ use Rattle.claims.specs.Boxed.{boxed}
 use Rattle.claims.specs.Measures.{BoxSized, Measures}
 use Rattle.claims.specs.Radii.{Usable}
 use Rattle.claims.specs.Insets.{Gap, not_below, gap_of_lem, inset_above}
-use Rattle.claims.specs.Within.{outer_known, inset-placed}
+use Rattle.claims.specs.Within.{outer_known, inset_placed}
 
 -- ---- the box
 box_sized : (ring : Ring) → RingKnown ring → BoxSized (ring_bounds ring)
@@ -61,6 +61,6 @@ module _ (k : ℕ) (few : k ≤ 1084) (options : GlyphOptions) (o : OptionsKnown
         short = (spacing_sized k few radius (gap_of options) R.sized R.nonneg G.sized G.nonneg).size;
         number = sized_number (inset_sized k few radius (boundary_gap_of options) R.sized R.nonneg B.sized B.nonneg);
         sited = λ p s.
-            let q = inset-placed p.x p.y (radius *ᶠ (1ᶠ +ᶠ boundary_gap_of options)) piece known s.fits.across s.fits.along (inset_above k few radius (boundary_gap_of options) R B) s.deep in
+            let q = inset_placed p.x p.y (radius *ᶠ (1ᶠ +ᶠ boundary_gap_of options)) piece known s.fits.across s.fits.along (inset_above k few radius (boundary_gap_of options) R B) s.deep in
             record { across = wider (lit≤ tt) q.across; along = wider (lit≤ tt) q.along };
       }

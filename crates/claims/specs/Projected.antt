@@ -25,10 +25,10 @@ use Rattle.claims.specs.Closeness.{close_same, product_close, quotient_close, sc
 use Rattle.claims.specs.Crossing.{difference}
 
 -- ---- (p - a) * d
-part-close :
+part_close :
     (p a d : Float) (n : ℕ) → Sized p n → Sized a 1024 → Sized d 2048 → n + 1024 < E → (n + 1024) * 2048 < E
     → Close E ((n + 1024) * U * (2048 * U) + U * H + (n + 1024) * U * (2048 * U)) (val ((p -ᶠ a) *ᶠ d) ⊗ nat U) ((val p ⊖ val a) ⊗ val d)
-part-close p a d n P A D h k =
+part_close p a d n P A D h k =
     let g = p -ᶠ a in
     let G = sub_sized P A h in
     let r = sub_of_finite p a P.num A.num G.num.fine in
@@ -140,8 +140,8 @@ module _ (px py ax ay bx by : Float) (PX : Sized px 5120) (PY : Sized py 1024) (
       let s = add_of_finite m n left_sized.num right_sized.num dot_sized.num.fine in
       let c = close_wider E (abs (val m ⊕ val n)) (16777216 * U) (val dot) (val m ⊕ val n) (omega (arith, signed_le (sgn m) (mag m), signed_le (sgn n) (mag n), left_sized.size, right_sized.size)) s.close in
       let c' = close_same (16777216 * U * U) (val dot ⊗ nat U) ((val m ⊕ val n) ⊗ nat U) (val dot ⊗ nat U) (val m ⊗ nat U ⊕ val n ⊗ nat U) (omega arith) (omega arith) (scaled_sign (16777216 * U) E (val dot) (val m ⊕ val n) false U U (omega arith) c) in
-      let a = part-close px ax dx 5120 PX (coordinate_sized cax) dx_sized (lit< tt) (lit< tt) in
-      let b = part-close py ay dy 1024 PY (coordinate_sized cay) dy_sized (lit< tt) (lit< tt) in
+      let a = part_close px ax dx 5120 PX (coordinate_sized cax) dx_sized (lit< tt) (lit< tt) in
+      let b = part_close py ay dy 1024 PY (coordinate_sized cay) dy_sized (lit< tt) (lit< tt) in
       close_wider E _ (50331648 * (U * U) + 2 * (U * H)) (val dot ⊗ nat U) dot_of (omega arith)
       (close_chain E _ _ (val dot ⊗ nat U) (val m ⊗ nat U ⊕ val n ⊗ nat U) dot_of c' (sum_close E _ _ (val m ⊗ nat U) ((val px ⊖ val ax) ⊗ val dx) (val n ⊗ nat U) ((val py ⊖ val ay) ⊗ val dy) a b))
 

@@ -103,11 +103,11 @@ squares_room h P Q m n u p q s u0 big =
 
 -- THE DISTANCE TO AN EDGE, squared
 module _ (px py ax ay bx by : Float) (PX : Sized px 5120) (PY : Sized py 1024) (cax : Coordinate ax) (cay : Coordinate ay) (cbx : Coordinate bx) (cby : Coordinate by) (w0 : 0 < mag (by -ᶠ ay)) where
-  pub edge-reached :
+  pub edge_reached :
       (w : ℕ) → Across (val px ⊖ val ax) (val py ⊖ val ay) (val (bx -ᶠ ax)) (val (by -ᶠ ay)) w (1025 * U)
       → Sized (edge_square px py ax ay bx by) 1062961
   unfolding edge_square
-  edge-reached w a =
+  edge_reached w a =
       let gx = val px ⊖ val ax in
       let gy = val py ⊖ val ay in
       let X = val (bx -ᶠ ax) in

@@ -36,11 +36,11 @@ honored true c t u = t
 honored false c t u = absurd u
 
 -- one more mark
-more-kept :
+more_kept :
     (piece : Piece) (clear : Float) (near : List Rectangle) (R : Point → Point → Type 0) (honor : Bool) (placed : List Point) (p : Point)
     → Kept piece clear near R honor placed → Every (λ (q : Point). R q p) placed → Stands piece clear p → (T honor → Unblocked near clear p)
     → Kept piece clear near R honor (placed ++ p ∷ [])
-more-kept piece clear near R honor placed p k r i u =
+more_kept piece clear near R honor placed p k r i u =
     record {
       insets = every_append (Stands piece clear) placed (p ∷ []) k.insets (i, tt);
       unblocked = λ t. every_append (Unblocked near clear) placed (p ∷ []) (k.unblocked t) (u t, tt);
@@ -52,13 +52,13 @@ abbrev pub AnchorFits : Anchor → Type 0
 AnchorFits Nowhere = Unit {0}
 AnchorFits (At p) = Fits p
 
-candidate-fits :
+candidate_fits :
     (piece : Piece) (n : ℕ) (ctx : PackCtx) (near : List Rectangle) (anchor : Anchor) (min-x max-x min-y max-y : Float) (index : ℕ) → AnchorFits anchor
     → Fits (candidate piece n ctx near anchor min-x max-x min-y max-y index)
 unfolding candidate
-candidate-fits piece n ctx near Nowhere min-x max-x min-y max-y index f = record { across = add-fits binary64 _ _; along = add-fits binary64 _ _ }
-candidate-fits piece n ctx near (At p) min-x max-x min-y max-y zero f = f
-candidate-fits piece n ctx near (At p) min-x max-x min-y max-y (suc index) f = record { across = add-fits binary64 _ _; along = add-fits binary64 _ _ }
+candidate_fits piece n ctx near Nowhere min-x max-x min-y max-y index f = record { across = add-fits binary64 _ _; along = add-fits binary64 _ _ }
+candidate_fits piece n ctx near (At p) min-x max-x min-y max-y zero f = f
+candidate_fits piece n ctx near (At p) min-x max-x min-y max-y (suc index) f = record { across = add-fits binary64 _ _; along = add-fits binary64 _ _ }
 
 module _ (piece : Piece) (n : ℕ) (ctx : PackCtx) (near : List Rectangle) (anchor : Anchor) (min-x max-x min-y max-y : Float) (held : AnchorFits anchor) where
   -- the computed test of a mark q and a later one p
@@ -73,7 +73,7 @@ module _ (piece : Piece) (n : ℕ) (ctx : PackCtx) (near : List Rectangle) (anch
   admitted honor placed p f k t =
       let test = apart piece n ctx near anchor min-x max-x min-y max-y p in
       let s = three (all test placed) (signed_clearance p.x p.y piece ≥ᶠ inset ctx) (not honor || clear_of_obstacles p.x p.y near (inset ctx)) t in
-      more-kept piece (inset ctx) near Tested honor placed p k (every_all test placed s.0) (record { fits = f; deep = s.1 }) (honored honor (clear_of_obstacles p.x p.y near (inset ctx)) s.2)
+      more_kept piece (inset ctx) near Tested honor placed p k (every_all test placed s.0) (record { fits = f; deep = s.1 }) (honored honor (clear_of_obstacles p.x p.y near (inset ctx)) s.2)
 
   next : (honor : Bool) (placed : List Point) (p : Point) (b : Bool) → (T b → KeptHere honor (placed ++ p ∷ [])) → KeptHere honor placed → KeptHere honor (cond b (placed ++ p ∷ []) placed)
   next honor placed p true f k = f tt
@@ -91,7 +91,7 @@ module _ (piece : Piece) (n : ℕ) (ctx : PackCtx) (near : List Rectangle) (anch
       let b = admits piece n ctx near anchor min-x max-x min-y max-y honor placed p in
       let now = cond b (placed ++ p ∷ []) placed in
       stop honor (eqb (length placed) n) placed (pass piece n ctx near anchor min-x max-x min-y max-y honor turns (index + 1) now) k
-      (passed honor turns (index + 1) now (next honor placed p b (admitted honor placed p (candidate-fits piece n ctx near anchor min-x max-x min-y max-y index held) k) k))
+      (passed honor turns (index + 1) now (next honor placed p b (admitted honor placed p (candidate_fits piece n ctx near anchor min-x max-x min-y max-y index held) k) k))
 
   -- both passes; under Strict the second is not made
   pub scattered : Kept piece (inset ctx) near Tested ctx.mode.strict_obstacles (passes piece n ctx near anchor min-x max-x min-y max-y)
@@ -123,7 +123,7 @@ module _ (piece : Piece) (n : ℕ) (attempts : ℕ) (ctx : PackCtx) (near : List
   landed honor placed p f k t =
       let test : Point → Bool = λ q. squared_distance p q ≥ᶠ spacing ctx *ᶠ spacing ctx in
       let s = three (all test placed) (signed_clearance p.x p.y piece ≥ᶠ inset ctx) (not honor || clear_of_obstacles p.x p.y near (inset ctx)) t in
-      more-kept piece (inset ctx) near Distant honor placed p k (every_all test placed s.0) (record { fits = f; deep = s.1 }) (honored honor (clear_of_obstacles p.x p.y near (inset ctx)) s.2)
+      more_kept piece (inset ctx) near Distant honor placed p k (every_all test placed s.0) (record { fits = f; deep = s.1 }) (honored honor (clear_of_obstacles p.x p.y near (inset ctx)) s.2)
 
   -- a dart that hits, lands
   abbrev Good : Bool → List Point → Dart → Type 0

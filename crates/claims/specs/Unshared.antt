@@ -32,7 +32,7 @@ use Rattle.rounding.specs.Casts.{floor_usize}
 use Rattle.rounding.specs.Shares.{Weight, minus_zero}
 use Rattle.glyphs.specs.Apportion.{total, no_weight, share, whole_share, remainder, base, rems, assigned, by_remainder, apportion}
 use Rattle.claims.specs.HandOut.{assigned_sum, handed_sum}
-use Rattle.glyphs.specs.Quotas.{quota_of, left_over, rank_next, by-keys, by_rank, apportioned}
+use Rattle.glyphs.specs.Quotas.{quota_of, left_over, rank_next, by_keys, by_rank, apportioned}
 
 -- ---- no weight: all to the first
 pub all_first : (n : ℕ) (weights : List Float) → 0 < length weights → no_weight (total weights) ≡ true → apportion n weights ≡ set (replicate (length weights) 0) 0 n
@@ -139,7 +139,7 @@ module _ (n : ℕ) (weights : List Float) (n0 : n ≤ 2000) (ms : Masses weights
   -- equal remainders leave the order to the indices
   by_index : (i j : ℕ) → i < length weights → j < length weights → by_remainder (rems n (inf false) weights) j i ≡ compare j i
   by_index i j l k =
-      by-keys n (inf false) weights i j nan l k
+      by_keys n (inf false) weights i j nan l k
       ∙ rw (no_remainder n (get_or weights i nan) n0 (mass_at weights ms i l), no_remainder n (get_or weights j nan) n0 (mass_at weights ms j k), compared (total_key 0ᶠ) (total_key 0ᶠ) Ordering.eq refl)
 
   ranked : (i t : ℕ) → i < length weights → t ≤ length weights → rank (by_remainder (rems n (inf false) weights)) i (up_to t) ≡ min t i

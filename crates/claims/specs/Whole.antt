@@ -75,11 +75,11 @@ module _ (first last : ℤ) where
       go [] h = tt
       go (k ∷ ks) h = (f (first +ℤ pos k) (above_first first k) (below_last first last k h.0), go ks h.1)
 
-  pub pairwise-through :
+  pub pairwise_through :
       (R : ℤ → ℤ → Type 0) → ((i j : ℤ) → T (le_z first i) → T (le_z i last) → T (le_z first j) → T (le_z j last) → (i ≡ j → ⊥) → R i j)
       → Pairwise R (through first last)
   unfolding through
-  pairwise-through R f = go (up_to (many (last -ℤ first))) (below_all (many (last -ℤ first))) (rising (many (last -ℤ first)))
+  pairwise_through R f = go (up_to (many (last -ℤ first))) (below_all (many (last -ℤ first))) (rising (many (last -ℤ first)))
     where
       row : (k : ℕ) (ks : List ℕ) → k < many (last -ℤ first) → Every (λ (m : ℕ). m < many (last -ℤ first)) ks → Every (◌<◌ k) ks → Every (R (first +ℤ pos k)) (map (λ (m : ℕ). first +ℤ pos m) ks)
       row k [] h hs l = tt

@@ -28,16 +28,16 @@ module _ (piece : Piece) (n : ℕ) (ctx : PackCtx) (rectangular : Bool) (near : 
   turn lo hi false true wide narrow L o h w v = w
   turn lo hi false false wide narrow L o h w v = v
 
-  pub widen-between :
+  pub widen_between :
       (turns : ℕ) (lo hi : Float) → Sized lo 65536 → Sized hi 65536 → Nonneg lo → Nonneg hi → mag lo ≤ mag hi
       → Middle lo hi (widen piece n ctx rectangular near anchor honoring s_max turns lo hi) 65536
   unfolding widen
-  widen-between zero lo hi L G ol og h = record { sized = L; nonneg = ol; low = omega arith; high = h }
-  widen-between (suc turns) lo hi L G ol og h =
+  widen_between zero lo hi L G ol og h = record { sized = L; nonneg = ol; low = omega arith; high = h }
+  widen_between (suc turns) lo hi L G ol og h =
       let mid = middle lo hi in
       let m = middle_between lo hi 65536 L G (lit< tt) ol og h in
-      let w = widen-between turns mid hi m.sized G m.nonneg og m.high in
-      let v = widen-between turns lo mid L m.sized ol m.nonneg m.low in
+      let w = widen_between turns mid hi m.sized G m.nonneg og m.high in
+      let v = widen_between turns lo mid L m.sized ol m.nonneg m.low in
       turn lo hi (hi -ᶠ lo ≤ᶠ 1e-3ᶠ *ᶠ s_max) (fits_at piece n ctx rectangular near anchor honoring mid) _ _ L ol h
       (record { sized = w.sized; nonneg = w.nonneg; low = le_trans m.low w.low; high = w.high })
       (record { sized = v.sized; nonneg = v.nonneg; low = v.low; high = le_trans v.high m.high })
@@ -91,7 +91,7 @@ module _
       go : (b : Bool) → Widened s (cond b (max s_max s) (widen piece n ctx rectangular near anchor honoring s_max 24 s (max s_max s)))
       go true = hi
       go false =
-          let m = widen-between piece n ctx rectangular near anchor honoring s_max 24 s (max s_max s) L.sized hi.length.sized L.nonneg hi.length.nonneg hi.least in
+          let m = widen_between piece n ctx rectangular near anchor honoring s_max 24 s (max s_max s) L.sized hi.length.sized L.nonneg hi.length.nonneg hi.least in
           longer s _ L m.sized m.nonneg (le_trans m.high hi.few) m.low
 
 -- places a wider spacing apart are the least spacing apart

@@ -80,7 +80,7 @@ inset_within x y inset piece i h = go (within x y piece) (outside x y inset piec
     go true f = refl
     go false f = absurd (T_not (inset ≤ᶠ signed_clearance x y piece) (no (f refl)) h)
 
-pub inset-placed :
+pub inset_placed :
     (x y inset : Float) (piece : Piece) → PieceKnown piece → T (fits binary64 x) → T (fits binary64 y) → T (0ᶠ <ᶠ inset) → T (inset ≤ᶠ signed_clearance x y piece)
     → Placed x y
-inset-placed x y inset piece k fx fy i h = inside_placed x y (outer piece) (outer_known piece k) fx fy (within_outer x y piece (inset_within x y inset piece i h))
+inset_placed x y inset piece k fx fy i h = inside_placed x y (outer piece) (outer_known piece k) fx fy (within_outer x y piece (inset_within x y inset piece i h))

@@ -5,7 +5,7 @@ use Rattle.std.proofs.Math.Path.{refl}
 use Rattle.std.proofs.Common.{sym, true≢false, le_refl, arith, ltb-true}
 use Rattle.regions.specs.Ring.{Piece}
 use Rattle.deepest.specs.Deepest.{heft, sum_over, better_of, splits_at, enter_four, turns}
-use Rattle.deepest.specs.Turns.{nodes_pos, nodes_split, weight-four, turn_done}
+use Rattle.deepest.specs.Turns.{nodes_pos, nodes_split, weight_four, turn_done}
 use Rattle.deepest.specs.declared.queue.Cell.{Cell}
 use Rattle.deepest.specs.declared.search.Best.{Best}
 use Rattle.deepest.specs.declared.search.Deepest.TheVariants.{Full}
@@ -34,7 +34,7 @@ module _ (piece : Piece) (halves : List Float) (precision : Float) (room : ℕ) 
       let z = nodes_pos (21 - c.halvings) in
       let four : c.halvings < 21 → Same f g (enter_four piece halves c n t) (better_of best c) (n + 4) =
       λ k.
-      let w = weight-four piece halves c n t in
+      let w = weight_four piece halves c n t in
       let v = nodes_split c.halvings k in
       again g (enter_four piece halves c n t) (better_of best c) (n + 4) (omega arith) (omega arith) in
       pick (splits_at halves precision c (better_of best c)) refl (nat_lt room (length t + 4)) four (again g t (better_of best c) n (omega arith) (omega arith))

@@ -120,9 +120,9 @@ moved e rp rn dp dn tp tn bp bn A a z h c l t = le_of_mul-le-mul_right {k = e} (
 small : (p n m t a u : ℕ) → u ≡ 4096 * a → p ≤ m + t → n ≤ m + t → m ≤ 26067 * u → t ≤ 3 * a → p - n + (n - p) ≤ a * 9007199254740992
 small p n m t a u e x y h k = omega arith
 
-close-enough :
+close_enough :
     (d b t p : Float) → Sized d 26067 → Sized b 26067 → Rise t → Num p → T (d ≤ᶠ b) → T (1/1024ᶠ ≤ᶠ p) → T (d +ᶠ t -ᶠ b ≤ᶠ p)
-close-enough d b t p hd hb ht hp l m =
+close_enough d b t p hd hb ht hp l m =
     let u = unit in
     let r : Sized (d +ᶠ t) 28115 = add_sized hd ht.sized (lit< tt) in
     let s = add_law d t hd.num ht.sized.num (omega (arith, hd.size, ht.sized.size)) in
@@ -140,11 +140,11 @@ close-enough d b t p hd hb ht hp l m =
     ≼→le (d +ᶠ t -ᶠ b) p z.num hp (after (val (d +ᶠ t -ᶠ b)) (nat (4 * A)) (val p) below least)
 
 -- ---- the law of a cell: after 21 halvings it is not split
-pub not-split :
+pub not_split :
     (h0 precision : Float) (c : Cell) (best : Best) → Sized h0 1024 → Num precision → T (1/1024ᶠ ≤ᶠ precision) → c.halvings ≡ 21 → Sized c.d 26067
     → Sized best.d 26067 → T (bound_of (halves_from h0 22) c -ᶠ (better_of best c).d ≤ᶠ precision)
 unfolding bound_of better_of
-not-split h0 precision c best hh hp m e hc hb = go (best.d <ᶠ c.d) refl
+not_split h0 precision c best hh hp m e hc hb = go (best.d <ᶠ c.d) refl
   where
     risen : Rise (half_at (halves_from h0 22) c.halvings *ᶠ √2ᶠ)
     risen = rw e (rise _ (last_half h0 hh))
@@ -152,5 +152,5 @@ not-split h0 precision c best hh hp m e hc hb = go (best.d <ᶠ c.d) refl
     go :
         (s : Bool) → best.d <ᶠ c.d ≡ s
         → T (c.d +ᶠ half_at (halves_from h0 22) c.halvings *ᶠ √2ᶠ -ᶠ (cond s (record { x = c.x; y = c.y; d = c.d }) best).d ≤ᶠ precision)
-    go true f = close-enough c.d c.d _ precision hc hc risen hp (le_self c.d (sized_number hc)) m
-    go false f = close-enough c.d best.d _ precision hc hb risen hp (not_lt_le c.d best.d (sized_number hc) (sized_number hb) (no f)) m
+    go true f = close_enough c.d c.d _ precision hc hc risen hp (le_self c.d (sized_number hc)) m
+    go false f = close_enough c.d best.d _ precision hc hb risen hp (not_lt_le c.d best.d (sized_number hc) (sized_number hb) (no f)) m

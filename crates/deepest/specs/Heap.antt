@@ -143,9 +143,9 @@ module _ (halves : List Float) where
         own' : 0 < r → leaves halves c (B (parent r)) ≡ false
         own' g = rw at_i (leaves_asym halves (A r) c h)
 
-    pub down-done :
+    pub down_done :
         Down A i n c → ((k : ℕ) → 0 < k → k < n → parent k ≡ i → leaves halves (A k) c ≡ false) → Changed A B i c → Heaped B n
-    down-done u h w = record { order = order' }
+    down_done u h w = record { order = order' }
       where
         order' : (k : ℕ) → 0 < k → k < n → leaves halves (B k) (B (parent k)) ≡ false
         order' k a b =
@@ -177,9 +177,9 @@ module _ (halves : List Float) where
       let l : i * 2 + 1 < k = lt_of_le-ne (omega arith) (λ (q : i * 2 + 1 ≡ k). e (sym q)) in
       omega arith
 
-  pub first-right :
+  pub first_right :
       (A : ℕ → Cell) (n i : ℕ) → i * 2 + 1 + 1 < n → leaves halves (A (i * 2 + 1 + 1)) (A (i * 2 + 1)) ≡ true → First A n i (i * 2 + 1 + 1)
-  first-right A n i l h = record { above = omega arith; within = l; child = omega arith; least = least' }
+  first_right A n i l h = record { above = omega arith; within = l; child = omega arith; least = least' }
     where
       least' : (k : ℕ) → 0 < k → k < n → parent k ≡ i → leaves halves (A k) (A (i * 2 + 1 + 1)) ≡ false
       least' k a b p =
@@ -188,10 +188,10 @@ module _ (halves : List Float) where
             | inr e ↦ rw (other i k a p e) (itself (A (i * 2 + 1 + 1)) _ refl)
           ]
 
-  pub first-left :
+  pub first_left :
       (A : ℕ → Cell) (n i : ℕ) → i * 2 + 1 < n → (i * 2 + 1 + 1 < n → leaves halves (A (i * 2 + 1 + 1)) (A (i * 2 + 1)) ≡ false)
       → First A n i (i * 2 + 1)
-  first-left A n i l h = record { above = omega arith; within = l; child = omega arith; least = least' }
+  first_left A n i l h = record { above = omega arith; within = l; child = omega arith; least = least' }
     where
       least' : (k : ℕ) → 0 < k → k < n → parent k ≡ i → leaves halves (A k) (A (i * 2 + 1)) ≡ false
       least' k a b p =

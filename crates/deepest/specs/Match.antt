@@ -176,12 +176,12 @@ module _ (halves l : List Float) (m : ℕ) where
           let s = list_find (cell_at l 0) (λ x. leaves halves h x ≡ true) t w.sorted.0 (omega (arith, w.bag (is_cell (cell_at l 0)))) in
           absurd (true≢false (sym s ∙ first_late h t n w))
 
-  pub match-pop :
+  pub match_pop :
       (q : List Cell) (n : ℕ) → Match halves l m q n → (r : Cell) (l' : List Float) (j : ℕ) → m ≡ j + 1 → Popped halves l m r l'
       → (t : List Cell) × (q ≡ r ∷ t) × Match halves l' j t n
   unfolding sum_over
-  match-pop [] n w r l' j e p = absurd (omega (arith, match_length [] n w))
-  match-pop (h ∷ t) n w r l' j e p =
+  match_pop [] n w r l' j e p = absurd (omega (arith, match_length [] n w))
+  match_pop (h ∷ t) n w r l' j e p =
       let same : r ≡ h = p.first ∙ heap_first h t n w (omega arith) in (
         t,
         rw same refl,

@@ -187,11 +187,11 @@ module _ (halves : List Float) where
 
 -- ---- laws of the table, for its loop
 
-pub halves-step :
+pub halves_step :
     (l : List Float) (h : Float) (n k : ℕ) → k < length l → k < n
     → take k l ++ halves_from h (n - k) ≡ take (k + 1) (slice_set l k h) ++ halves_from (h /ᶠ 2ᶠ) (n - (k + 1))
 unfolding halves_from
-halves-step l h n k p q =
+halves_step l h n k p q =
     let e : n - k ≡ suc (n - (k + 1)) = omega arith in
     rw (e, add-one, take-suc-set l k h p, append_snoc (take k l) h (halves_from (h /ᶠ 2ᶠ) (n - suc k)))
 

@@ -60,15 +60,15 @@ module _ (piece : Piece) (halves : List Float) (e : Extents) (side : Float) (roo
   grid_end zero c q n h = rw h
   grid_end (suc r) c q n h = rw h
 
-  grid-step :
+  grid_step :
       (r : ℕ) (c : Corner) (q : List Cell) (n : ℕ) → 0 < r → c.more ≡ true
       → grid_from piece halves e side r c q n
       ≡ grid_from piece halves e side (r - 1) (next_corner e side c)
       (enter halves (make_cell piece (c.x +ᶠ half_at halves 0) (c.y +ᶠ half_at halves 0) 0 n) q)
       (n + 1)
   unfolding grid_from
-  grid-step zero c q n z h = absurd (omega arith)
-  grid-step (suc r) c q n z h =
+  grid_step zero c q n z h = absurd (omega arith)
+  grid_step (suc r) c q n z h =
       let g : suc r - 1 ≡ r = omega arith in
       rw (g, h)
 
@@ -81,10 +81,10 @@ module _ (piece : Piece) (halves : List Float) (e : Extents) (side : Float) (roo
         let a = u.place in
         record { q = u.q; is = u.same ∙ grid_end (room - m) c u.q m h; match = u.match; weight = u.weight; few = omega arith }
 
-    pub plant-step :
+    pub plant_step :
         (x y : Float) (l' : List Float) → m < room → c.more ≡ true → x ≡ c.x +ᶠ half_at halves 0 → y ≡ c.y +ᶠ half_at halves 0
         → Entered piece halves l m x y 0 m l' → Planting l' (m + 1) (next_corner e side c)
-    plant-step x y l' r h p k w =
+    plant_step x y l' r h p k w =
         let a = u.weight in
         let b = w.weight in
         let d : nodes (21 - 0) ≡ 5864062014805 = nodes_21 in
@@ -93,7 +93,7 @@ module _ (piece : Piece) (halves : List Float) (e : Extents) (side : Float) (roo
           q = enter halves (make_cell piece x y 0 m) u.q;
           match = w.match u.q u.match;
           weight = omega arith;
-          same = u.same ∙ grid-step (room - m) c u.q m (omega arith) h ∙ cells;
+          same = u.same ∙ grid_step (room - m) c u.q m (omega arith) h ∙ cells;
         }
       where
         fewer : room - m - 1 ≡ room - (m + 1)
@@ -119,11 +119,11 @@ module _ (piece : Piece) (precision : Float) (room : ℕ) (e : Extents) (side : 
   unfolding search_in finish
   search_over g = rw (← h, g)
 
-  pub search-some :
+  pub search_some :
       (l : List Float) (m : ℕ) (best : Best) (r : Deepest) → room ≡ length l / 5 → Planted halves l m (grid_from piece halves e side room (first_corner e) [] 0)
       → best ≡ centre_of piece e → Explored piece halves precision l m best r → r ≡ search_in piece precision room e side
   unfolding search_in finish centre_of
-  search-some l m best r k p b x =
+  search_some l m best r k p b x =
       rw (← h, p.is, match_length halves l m p.q m p.match, ← b, k) (x.answer p.q p.match)
 
 -- the table, the few first cells and their light weight leave entries for all

@@ -6,9 +6,9 @@ use Rattle.std.proofs.Common.{◌∙◌, le_refl, arith}
 use Rattle.regions.specs.Ring.{Piece}
 use Rattle.deepest.specs.Cells.{cell_at}
 use Rattle.deepest.specs.Queue.{total, Queue, Popped}
-use Rattle.deepest.specs.Match.{Match, match-pop, match_none, match_length}
+use Rattle.deepest.specs.Match.{Match, match_pop, match_none, match_length}
 use Rattle.deepest.specs.Deepest.{heft, sum_over, better_of, answer_of, splits_at, enter_four, turns}
-use Rattle.deepest.specs.Turns.{Quartered, nodes_pos, nodes_split, weight-four, turn_done, turn-keep, turn-full, turn-split}
+use Rattle.deepest.specs.Turns.{Quartered, nodes_pos, nodes_split, weight_four, turn_done, turn_keep, turn_full, turn_split}
 use Rattle.deepest.specs.declared.queue.Cell.{Cell}
 use Rattle.deepest.specs.declared.search.Best.{Best}
 use Rattle.deepest.specs.declared.search.Deepest.{Deepest}
@@ -29,10 +29,10 @@ module _ (piece : Piece) (halves : List Float) (precision : Float) (room : ℕ) 
     pub light : n + 4 * total heft (cell_at l) m ≤ 4611686018427387904
     pub left : (q : List Cell) → Match halves l₀ m₀ q m₀ → Left (turns piece halves (sum_over heft q) precision room q best₀ m₀) l m n best
 
-  pub search-start :
+  pub search_start :
       (l : List Float) (m : ℕ) (best : Best) → Queue halves l m → m + 4 * total heft (cell_at l) m ≤ 4611686018427387904
       → Searching l m best l m m best
-  search-start l m best q w =
+  search_start l m best q w =
       record {
         long = refl;
         queue = q;
@@ -68,7 +68,7 @@ module _ (piece : Piece) (halves : List Float) (precision : Float) (room : ℕ) 
       rest : (q : List Cell) → Match halves l m q n → Rest q
       unfolding sum_over
       rest q w =
-          let r = match-pop halves l m q n w c l' j some p in
+          let r = match_pop halves l m q n w c l' j some p in
           record { t = r.0; is = r.1; match = r.2; weight = ap (sum_over heft) r.1 }
 
       one : 0 < heft c
@@ -88,7 +88,7 @@ module _ (piece : Piece) (halves : List Float) (precision : Float) (room : ℕ) 
             same =
                 u.same
                 ∙ ap (λ (q : List Cell). turns piece halves u.f precision room q best n) r.is
-                ∙ turn-keep piece halves precision room u.f c r.t best n (omega arith) e;
+                ∙ turn_keep piece halves precision room u.f c r.t best n (omega arith) e;
           }
 
       left_split :
@@ -99,7 +99,7 @@ module _ (piece : Piece) (halves : List Float) (precision : Float) (room : ℕ) 
           let a = r.weight in
           let b = u.enough in
           let z = one in
-          let w = weight-four piece halves c n r.t in
+          let w = weight_four piece halves c n r.t in
           let v = nodes_split c.halvings k in
           let size = match_length halves l' j r.t n r.match in
           record {
@@ -110,7 +110,7 @@ module _ (piece : Piece) (halves : List Float) (precision : Float) (room : ℕ) 
             same =
                 u.same
                 ∙ ap (λ (q : List Cell). turns piece halves u.f precision room q best n) r.is
-                ∙ turn-split piece halves precision room u.f c r.t best n (omega arith) e (omega arith);
+                ∙ turn_split piece halves precision room u.f c r.t best n (omega arith) e (omega arith);
           }
 
       left_full : {d : Deepest} → splits_at halves precision c (better_of best c) ≡ true → room < j + 4 → Left d l m n best → d ≡ Full
@@ -122,7 +122,7 @@ module _ (piece : Piece) (halves : List Float) (precision : Float) (room : ℕ) 
           let size = match_length halves l' j r.t n r.match in
           u.same
           ∙ ap (λ (q : List Cell). turns piece halves u.f precision room q best n) r.is
-          ∙ turn-full piece halves precision room u.f c r.t best n (omega arith) e (omega arith)
+          ∙ turn_full piece halves precision room u.f c r.t best n (omega arith) e (omega arith)
 
       pub search_keep : splits_at halves precision c (better_of best c) ≡ false → Searching l₀ m₀ best₀ l' j n (better_of best c)
       search_keep e =
@@ -130,10 +130,10 @@ module _ (piece : Piece) (halves : List Float) (precision : Float) (room : ℕ) 
           let a = s.light in
           record { long = p.long ∙ s.long; queue = p.queue j some; light = omega arith; left = λ q w. left_keep e (s.left q w) }
 
-      pub search-split :
+      pub search_split :
           (l'' : List Float) → splits_at halves precision c (better_of best c) ≡ true → c.halvings < 21 → j + 4 ≤ room
           → Quartered piece halves l' j c n l'' → Searching l₀ m₀ best₀ l'' (j + 4) (n + 4) (better_of best c)
-      search-split l'' e k g h =
+      search_split l'' e k g h =
           let w = lighter in
           let a = s.light in
           let v = nodes_split c.halvings k in
@@ -145,10 +145,10 @@ module _ (piece : Piece) (halves : List Float) (precision : Float) (room : ℕ) 
             left = λ q w. left_split l'' e k g h (s.left q w);
           }
 
-      pub search-full :
+      pub search_full :
           splits_at halves precision c (better_of best c) ≡ true → room < j + 4 → (q : List Cell) → Match halves l₀ m₀ q m₀
           → turns piece halves (sum_over heft q) precision room q best₀ m₀ ≡ Full
-      search-full e g q w = left_full e g (s.left q w)
+      search_full e g q w = left_full e g (s.left q w)
 
       -- four more entries have numbers
       pub search_room : n + 4 ≤ 4611686018427387904
@@ -158,10 +158,10 @@ module _ (piece : Piece) (halves : List Float) (precision : Float) (room : ℕ) 
           let z = one in
           omega arith
 
-  pub search-done :
+  pub search_done :
       (l₀ : List Float) (m₀ : ℕ) (best₀ : Best) (l : List Float) (m n : ℕ) (best : Best) → Searching l₀ m₀ best₀ l m n best → m ≡ 0 → (q : List Cell)
       → Match halves l₀ m₀ q m₀ → turns piece halves (sum_over heft q) precision room q best₀ m₀ ≡ answer_of best
-  search-done l₀ m₀ best₀ l m n best s e q w =
+  search_done l₀ m₀ best₀ l m n best s e q w =
       let u = s.left q w in
       u.same
       ∙ ap (λ (x : List Cell). turns piece halves u.f precision room x best n) (match_none halves l m u.q n u.match e)

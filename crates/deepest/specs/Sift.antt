@@ -8,7 +8,7 @@ use Rattle.std.proofs.Math.Numerals.{add-one}
 use Rattle.std.proofs.Math.Arith.{lt_of_le-ne}
 use Rattle.deepest.specs.Order.{leaves, leaves_chain}
 use Rattle.deepest.specs.Cells.{cell_at, put_cell, Tagged, Sound, length_put, put_sound, put_keeps}
-use Rattle.deepest.specs.Heap.{parent, Heaped, Changed, Up, Down, First, same_or_not, up_start, up_step, up_done, down_start, down_step, down-done}
+use Rattle.deepest.specs.Heap.{parent, Heaped, Changed, Up, Down, First, same_or_not, up_start, up_step, up_done, down_start, down_step, down_done}
 use Rattle.deepest.specs.Queue.{total, Queue, Pushed, Popped, changed_put, total_changed}
 use Rattle.deepest.specs.declared.queue.Cell.{Cell}
 
@@ -139,9 +139,9 @@ module _ (halves l₀ : List Float) (n : ℕ) (r c : Cell) where
     kept_at : (e : Cell) → Tagged e → (k : ℕ) → k < n → Sound (put_cell l i e) k
     kept_at e t k b = elim (same_or_not k i) [ inl q ↦ rw q (put_sound l i e spot t) | inr q ↦ put_keeps l i e k q (u.sound k b q) ]
 
-    pub sinking-step :
+    pub sinking_step :
         (k : ℕ) → First halves (cell_at l) n i k → leaves halves (cell_at l k) c ≡ true → Sinking halves l₀ n r c (put_cell l i (cell_at l k)) k
-    sinking-step k f h =
+    sinking_step k f h =
         let e = cell_at l k in
         let t : Tagged e = (u.sound k f.within (apart f)).tagged in
         let w : Changed (cell_at l) (cell_at (put_cell l i e)) i e = changed_put l i e spot t in
@@ -167,12 +167,12 @@ module _ (halves l₀ : List Float) (n : ℕ) (r c : Cell) where
             let same : g (cell_at (put_cell l i e) k) ≡ g e = ap g (w.there k d ∙ sym q) in
             omega (arith, u.bag g, total_changed g (cell_at l) (cell_at (put_cell l i e)) i e n w u.place)
 
-    pub sinking-done :
+    pub sinking_done :
         Tagged c → ((k : ℕ) → 0 < k → k < n → parent k ≡ i → leaves halves (cell_at l k) c ≡ false) → r ≡ cell_at l₀ 0
         → Popped halves l₀ (n + 1) r (put_cell l i c)
-    sinking-done t h p =
+    sinking_done t h p =
         let w : Changed (cell_at l) (cell_at (put_cell l i c)) i c = changed_put l i c spot t in
-        let q : Queue halves (put_cell l i c) n = record { room = long'; sound = kept_at c t; heap = down-done halves (cell_at l) (cell_at (put_cell l i c)) i n c u.order h w } in
+        let q : Queue halves (put_cell l i c) n = record { room = long'; sound = kept_at c t; heap = down_done halves (cell_at l) (cell_at (put_cell l i c)) i n c u.order h w } in
         record {
           long = length_put l i c ∙ u.long;
           first = p;
@@ -194,10 +194,10 @@ module _ (halves l₀ : List Float) (n : ℕ) (r c : Cell) where
         summed f w = omega (arith, u.bag f, total_changed f (cell_at l) (cell_at (put_cell l i c)) i c n w u.place)
 
 -- the children that do not leave before c, where the first of them does not
-pub no-child-first :
+pub no_child_first :
     (halves l : List Float) (n i k : ℕ) (c : Cell) → First halves (cell_at l) n i k → leaves halves (cell_at l k) c ≡ false
     → (j : ℕ) → 0 < j → j < n → parent j ≡ i → leaves halves (cell_at l j) c ≡ false
-no-child-first halves l n i k c f h j a b p = leaves_chain halves (cell_at l j) (cell_at l k) c (f.least j a b p) h
+no_child_first halves l n i k c f h j a b p = leaves_chain halves (cell_at l j) (cell_at l k) c (f.least j a b p) h
 
 -- the last of the queue is the first
 pub popped_last : (halves l : List Float) (r : Cell) → r ≡ cell_at l 0 → Popped halves l 1 r l

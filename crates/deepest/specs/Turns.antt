@@ -61,11 +61,11 @@ nodes_split k h =
     let e : 21 - k ≡ suc (21 - (k + 1)) = omega arith in
     rw e
 
-pub weight-four :
+pub weight_four :
     (piece : Piece) (halves : List Float) (c : Cell) (n : ℕ) (q : List Cell)
     → sum_over heft (enter_four piece halves c n q) ≡ sum_over heft q + 4 * nodes (21 - (c.halvings + 1))
 unfolding enter_four make_cell
-weight-four piece halves c n q = rw (sum_enter halves heft, sum_enter halves heft, sum_enter halves heft, sum_enter halves heft) (omega arith)
+weight_four piece halves c n q = rw (sum_enter halves heft, sum_enter halves heft, sum_enter halves heft, sum_enter halves heft) (omega arith)
 
 module _ (piece : Piece) (halves : List Float) (precision : Float) (room : ℕ) where
   pub turn_done : (f : ℕ) (best : Best) (n : ℕ) → turns piece halves f precision room [] best n ≡ answer_of best
@@ -74,11 +74,11 @@ module _ (piece : Piece) (halves : List Float) (precision : Float) (room : ℕ) 
   turn_done (suc f) best n = refl
 
   module _ (f : ℕ) (c : Cell) (rest : List Cell) (best : Best) (n : ℕ) (some : 0 < f) where
-    pub turn-keep :
+    pub turn_keep :
         splits_at halves precision c (better_of best c) ≡ false
         → turns piece halves f precision room (c ∷ rest) best n ≡ turns piece halves (f - 1) precision room rest (better_of best c) n
     unfolding turns
-    turn-keep e = at f some
+    turn_keep e = at f some
       where
         at : (f : ℕ) → 0 < f → turns piece halves f precision room (c ∷ rest) best n ≡ turns piece halves (f - 1) precision room rest (better_of best c) n
         at zero h = absurd (omega arith)
@@ -86,21 +86,21 @@ module _ (piece : Piece) (halves : List Float) (precision : Float) (room : ℕ) 
             let g : suc f - 1 ≡ f = omega arith in
             rw (g, e)
 
-    pub turn-full :
+    pub turn_full :
         splits_at halves precision c (better_of best c) ≡ true → room < length rest + 4 → turns piece halves f precision room (c ∷ rest) best n ≡ Full
     unfolding turns
-    turn-full e r = at f some
+    turn_full e r = at f some
       where
         at : (f : ℕ) → 0 < f → turns piece halves f precision room (c ∷ rest) best n ≡ Full
         at zero h = absurd (omega arith)
         at (suc f) h = rw (e, lt-ltb room (length rest + 4) r)
 
-    pub turn-split :
+    pub turn_split :
         splits_at halves precision c (better_of best c) ≡ true → length rest + 4 ≤ room
         → turns piece halves f precision room (c ∷ rest) best n
         ≡ turns piece halves (f - 1) precision room (enter_four piece halves c n rest) (better_of best c) (n + 4)
     unfolding turns
-    turn-split e r = at f some
+    turn_split e r = at f some
       where
         at :
             (f : ℕ) → 0 < f

@@ -18,7 +18,7 @@ use Rattle.deepest.specs.Order.{halves_from, half_at, bound_of}
 use Rattle.deepest.specs.Match.{Each, each_enter}
 use Rattle.deepest.specs.Deepest.{heft, sum_over, better_of, answer_of, splits_at, make_cell, enter_four, turns}
 use Rattle.deepest.specs.Fuel.{split_few, fuel_enough}
-use Rattle.deepest.specs.Halvings.{1/1024ᶠ, not-split, two_num, two_mag}
+use Rattle.deepest.specs.Halvings.{1/1024ᶠ, not_split, two_num, two_mag}
 use Rattle.deepest.specs.declared.queue.Cell.{Cell}
 use Rattle.deepest.specs.declared.search.Best.{Best}
 use Rattle.deepest.specs.declared.search.Deepest.{Deepest}
@@ -112,7 +112,7 @@ module _ (ring : Ring) (holes : List Ring) (b : Bounded ring) (h0 : Float) (hh :
     unfolding splits_at splits_free
     same_test c best m s =
         elim (eq-or-lt_of_le m.few) [
-          | inl e ↦ rw (le-ltb c.halvings 21 (at_least e), is_true (bound_of (halves_from h0 22) c -ᶠ (better_of best c).d ≤ᶠ precision) (not-split h0 precision c best hh hp least e (clear_sized c m) s))
+          | inl e ↦ rw (le-ltb c.halvings 21 (at_least e), is_true (bound_of (halves_from h0 22) c -ᶠ (better_of best c).d ≤ᶠ precision) (not_split h0 precision c best hh hp least e (clear_sized c m) s))
           | inr l ↦ rw (lt-ltb c.halvings 21 l)
         ]
       where
@@ -143,11 +143,11 @@ module _ (ring : Ring) (holes : List Ring) (b : Bounded ring) (h0 : Float) (hh :
     unlimited (suc f) q best n a s = step f (unlimited f) q best n a s
 
     -- and it ends: more turns change nothing
-    pub free-ends :
+    pub free_ends :
         (f : ℕ) (q : List Cell) (best : Best) (n : ℕ) → Each Measured q → Sized best.d 26067 → sum_over heft q ≤ f
         → turns_free (ring ∷ holes) (halves_from h0 22) f precision room q best n
         ≡ turns_free (ring ∷ holes) (halves_from h0 22) (sum_over heft q) precision room q best n
-    free-ends f q best n a s h =
+    free_ends f q best n a s h =
         sym (unlimited f q best n a s)
         ∙ fuel_enough (ring ∷ holes) (halves_from h0 22) precision room f q best n h
         ∙ unlimited (sum_over heft q) q best n a s

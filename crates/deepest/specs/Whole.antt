@@ -75,13 +75,13 @@ max_sized x y k p q = go (is_nan x) (x <ᶠ y)
     go false true = q
     go false false = p
 
-extent-sized :
+extent_sized :
     (f : Float → Float → Float) (start : Float) → ((x : Float) → T (finite x) → f start x ≡ x) → ((x y : Float) → Sized x 1024 → Sized y 1024 → Sized (f x y) 1024)
     → (at : Ring → ℕ → Float) (ring : Ring) (n : ℕ) → ((i : ℕ) → i < n → Sized (at ring i) 1024) → (i : ℕ) → i < n
     → Sized (extent f at start ring (suc i)) 1024
 unfolding extent
-extent-sized f start first keep at ring n h zero l = rw (first (at ring 0) (h 0 l).num.fine) (h 0 l)
-extent-sized f start first keep at ring n h (suc i) l = keep _ _ (extent-sized f start first keep at ring n h i (omega arith)) (h (suc i) l)
+extent_sized f start first keep at ring n h zero l = rw (first (at ring 0) (h 0 l).num.fine) (h 0 l)
+extent_sized f start first keep at ring n h (suc i) l = keep _ _ (extent_sized f start first keep at ring n h i (omega arith)) (h (suc i) l)
 
 pub record Framed (e : Extents) : Type 0 where
   pub left : Sized e.min_x 1024
@@ -99,10 +99,10 @@ framed ring b =
     let e = last n b.two in
     let l : n - 1 < n = omega (arith, b.two) in
     record {
-      left = rw e (extent-sized min ∞ min_first (λ x y. min_sized x y 1024) x_at ring n b.xs (n - 1) l);
-      right = rw e (extent-sized max -∞ max_first (λ x y. max_sized x y 1024) x_at ring n b.xs (n - 1) l);
-      bottom = rw e (extent-sized min ∞ min_first (λ x y. min_sized x y 1024) y_at ring n b.ys (n - 1) l);
-      top = rw e (extent-sized max -∞ max_first (λ x y. max_sized x y 1024) y_at ring n b.ys (n - 1) l);
+      left = rw e (extent_sized min ∞ min_first (λ x y. min_sized x y 1024) x_at ring n b.xs (n - 1) l);
+      right = rw e (extent_sized max -∞ max_first (λ x y. max_sized x y 1024) x_at ring n b.xs (n - 1) l);
+      bottom = rw e (extent_sized min ∞ min_first (λ x y. min_sized x y 1024) y_at ring n b.ys (n - 1) l);
+      top = rw e (extent_sized max -∞ max_first (λ x y. max_sized x y 1024) y_at ring n b.ys (n - 1) l);
     }
 
 -- ---- the first cells
@@ -128,11 +128,11 @@ first_cornered : (e : Extents) → Framed e → Cornered (first_corner e)
 unfolding first_corner
 first_cornered e f = record { across = λ h. f.left; along = λ h. f.bottom }
 
-next-cornered :
+next_cornered :
     (e : Extents) (side : Float) (c : Corner) → Framed e → Sized side 2048 → Nonneg side → Sized c.x 1024 → Sized c.y 1024
     → Cornered (next_corner e side c)
 unfolding next_corner
-next-cornered e side c f q n sx sy = go (c.y +ᶠ side <ᶠ e.max_y) refl
+next_cornered e side c f q n sx sy = go (c.y +ᶠ side <ᶠ e.max_y) refl
   where
     go :
         (t : Bool) → c.y +ᶠ side <ᶠ e.max_y ≡ t
@@ -148,21 +148,21 @@ module _ (ring : Ring) (holes : List Ring) (b : Bounded ring) (e : Extents) (f :
   AllMeasured over = Unit {0}
   AllMeasured (waiting q) = Each (Measured ring holes b (side /ᶠ 2ᶠ) narrow) q
 
-  first-measured :
+  first_measured :
       (x y : Float) (n : ℕ) → Sized x 1024 → Sized y 1024
       → Measured ring holes b (side /ᶠ 2ᶠ) narrow
       (make_cell (ring ∷ holes) (x +ᶠ half_at (halves_from (side /ᶠ 2ᶠ) 22) 0) (y +ᶠ half_at (halves_from (side /ᶠ 2ᶠ) 22) 0) 0 n)
   unfolding make_cell halves_from
-  first-measured x y n p q = record { few = lit≤ tt; across = add_sized p narrow (lit< tt); along = add_sized q narrow (lit< tt); clear = refl }
+  first_measured x y n p q = record { few = lit≤ tt; across = add_sized p narrow (lit< tt); along = add_sized q narrow (lit< tt); clear = refl }
 
-  grid-more :
+  grid_more :
       (r : ℕ) (c : Corner) (q : List Cell) (n : ℕ)
       → ((c : Corner) (q : List Cell) (n : ℕ) → Cornered c → Each (Measured ring holes b (side /ᶠ 2ᶠ) narrow) q
       → AllMeasured (grid_from (ring ∷ holes) (halves_from (side /ᶠ 2ᶠ) 22) e side r c q n))
       → Cornered c → Each (Measured ring holes b (side /ᶠ 2ᶠ) narrow) q
       → AllMeasured (grid_from (ring ∷ holes) (halves_from (side /ᶠ 2ᶠ) 22) e side (suc r) c q n)
   unfolding grid_from
-  grid-more r c q n again w a = go c.more refl
+  grid_more r c q n again w a = go c.more refl
     where
       more : Grid
       more =
@@ -172,20 +172,20 @@ module _ (ring : Ring) (holes : List Ring) (b : Bounded ring) (e : Extents) (f :
 
       go : (t : Bool) → c.more ≡ t → AllMeasured (cond t more (waiting q))
       go true h =
-          again _ _ (n + 1) (next-cornered e side c f sized up (w.across h) (w.along h))
-          (each_enter _ _ _ _ (first-measured c.x c.y n (w.across h) (w.along h)) a)
+          again _ _ (n + 1) (next_cornered e side c f sized up (w.across h) (w.along h))
+          (each_enter _ _ _ _ (first_measured c.x c.y n (w.across h) (w.along h)) a)
       go false h = a
 
-  grid-measured :
+  grid_measured :
       (r : ℕ) (c : Corner) (q : List Cell) (n : ℕ) → Cornered c → Each (Measured ring holes b (side /ᶠ 2ᶠ) narrow) q
       → AllMeasured (grid_from (ring ∷ holes) (halves_from (side /ᶠ 2ᶠ) 22) e side r c q n)
   unfolding grid_from
-  grid-measured zero c q n w a = go c.more
+  grid_measured zero c q n w a = go c.more
     where
       go : (t : Bool) → AllMeasured (cond t over (waiting q))
       go true = tt
       go false = a
-  grid-measured (suc r) c q n w a = grid-more r c q n (grid-measured r) w a
+  grid_measured (suc r) c q n w a = grid_more r c q n (grid_measured r) w a
 
   middle : (x y : Float) → Sized x 1024 → Sized y 1024 → Sized ((x +ᶠ y) /ᶠ 2ᶠ) 15360
   middle x y p q = wider (lit≤ tt) (half_sized (x +ᶠ y) 1024 (lit< tt) (add_sized p q (lit< tt)))
@@ -197,13 +197,13 @@ module _ (ring : Ring) (holes : List Ring) (b : Bounded ring) (e : Extents) (f :
       (middle _ _ f.bottom f.top)
       b
 
-  pub same-search :
+  pub same_search :
       (precision : Float) → Num precision → T (1/1024ᶠ ≤ᶠ precision) → (room : ℕ)
       → search_in (ring ∷ holes) precision room e side ≡ search_free (ring ∷ holes) precision room e side
   unfolding search_in search_free finish finish_free
-  same-search precision hp least room =
+  same_search precision hp least room =
       go (grid_from (ring ∷ holes) (halves_from (side /ᶠ 2ᶠ) 22) e side room (first_corner e) [] 0)
-      (grid-measured room (first_corner e) [] 0 (first_cornered e f) tt)
+      (grid_measured room (first_corner e) [] 0 (first_cornered e f) tt)
     where
       go :
           (g : Grid) → AllMeasured g
@@ -246,11 +246,11 @@ chosen false true q a b h = refl
 chosen false false true a b h = refl
 chosen false false false a b h = h refl refl
 
-pub never-short :
+pub never_short :
     (room : ℕ) (precision : Float) (ring : Ring) (holes : List Ring) → Bounded ring → Num precision → T (1/1024ᶠ ≤ᶠ precision)
     → deepest_point room precision (ring ∷ holes) ≡ deepest_free room precision (ring ∷ holes)
 unfolding deepest_point deepest_free outer
-never-short room precision ring holes b hp least =
+never_short room precision ring holes b hp least =
     let e = extents_of ring in
     let f = framed ring b in
     let w = e.max_x -ᶠ e.min_x in
@@ -259,4 +259,4 @@ never-short room precision ring holes b hp least =
     let high : Sized h 2048 = sub_sized f.top f.bottom (lit< tt) in
     chosen (nat_lt (vertices ring) 3) (w ≤ᶠ 0ᶠ) (h ≤ᶠ 0ᶠ) _ _
     (λ p q.
-    same-search ring holes b e f (min w h) (min_sized w h 2048 wide high) (min_nonneg w h (above w wide.num p) (above h high.num q)) precision hp least room)
+    same_search ring holes b e f (min w h) (min_sized w h 2048 wide high) (min_nonneg w h (above w wide.num p) (above h high.num q)) precision hp least room)

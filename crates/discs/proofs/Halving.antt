@@ -28,11 +28,11 @@ module _ (fits : Float → Bool) (r-hi : Float) where
       let e : 25 - made ≡ suc (24 - made) = omega arith in
       rw (e, t)
 
-  pub halve-turn :
+  pub halve_turn :
       (b : Bracket) (made : ℕ) → made < 25 → b.hi -ᶠ b.lo ≤ᶠ 1e-3ᶠ *ᶠ r-hi ≡ false
       → left b made ≡ left (narrowed b (½ᶠ *ᶠ (b.lo +ᶠ b.hi)) (fits (½ᶠ *ᶠ (b.lo +ᶠ b.hi)))) (made + 1)
   unfolding halve narrowed
-  halve-turn b made h t =
+  halve_turn b made h t =
       let e : 25 - made ≡ suc (24 - made) = omega arith in
       let f : 25 - (made + 1) ≡ 24 - made = omega arith in
       rw (e, t, f) (go b (24 - made) made (½ᶠ *ᶠ (b.lo +ᶠ b.hi)) (fits (½ᶠ *ᶠ (b.lo +ᶠ b.hi))))

@@ -38,17 +38,17 @@ module _ (mode : PackMode) (n : ℕ) (placed : List Point) where
   unfolding written flat
   packs_none entry e = rw e (record { counted = refl; most = omega arith; spots = λ m. refl })
 
-  pub packs-written :
+  pub packs_written :
       (other : List Point) (count : ℕ) (exit entry : List Float) → placed ≡ other → count ≡ length other → exit ≡ written (flat other) entry
       → length exit ≡ length entry → length entry ≡ n * 2 → Packs mode n placed count exit entry
-  packs-written other count exit entry e c w l h =
+  packs_written other count exit entry e c w l h =
       let f = written_fits (flat other) entry (rw w at l) in
       rw e (record { counted = c; most = omega (arith, length_flat other); spots = λ m. w })
 
-  pub packs-trial :
+  pub packs_trial :
       (other : List Point) (count : ℕ) (exit entry : List Float) → mode.spread ≡ false → placed ≡ other → count ≡ length other → length placed ≤ n
       → Packs mode n placed count exit entry
-  packs-trial other count exit entry t e c l =
+  packs_trial other count exit entry t e c l =
       record { counted = c ∙ ap length (sym e); most = omega (arith, ap length e); spots = λ m. let w : ◌≡◌ {A = ℕ} 0 1 = cc in absurd (omega arith) }
 
 -- a final packing is no trial
@@ -64,11 +64,11 @@ module _ (piece : Piece) (n : ℕ) (ctx : PackCtx) (obstacles : List Rectangle) 
   lattice_none Full rectangular k = refl
   lattice_none (Found x y clearance) rectangular k = ⊎_elim (λ (a : ◌≡◌ {A = ℕ} 0 1). absurd (omega arith)) (λ (b : ◌≡◌ {A = ℕ} 0 2). absurd (omega arith)) k
 
-  pub lattice-at :
+  pub lattice_at :
       (found : Deepest) (rectangular : Bool) (x y clearance : Float) → found ≡ Found x y clearance
       → pack_uniform_piece found piece n ctx obstacles rectangular ≡ pack_around (point x y) piece n ctx obstacles rectangular
   unfolding pack_uniform_piece
-  lattice-at found rectangular x y clearance e = rw e
+  lattice_at found rectangular x y clearance e = rw e
 
   -- a trial has no more cells than are wanted
   few :
@@ -81,11 +81,11 @@ module _ (piece : Piece) (n : ℕ) (ctx : PackCtx) (obstacles : List Rectangle) 
   few false true anchor cells u w true false t s e = simp length-take (omega arith)
   few false true anchor cells u w false x t s e = let k = leb-false n (length cells.free) e in omega arith
 
-  around-few :
+  around_few :
       (poi : Point) (rectangular : Bool) → ctx.mode.spread ≡ false → ctx.mode.strict_obstacles ≡ true
       → length (pack_around poi piece n ctx obstacles rectangular) ≤ n
   unfolding pack_around pack_lattice
-  around-few poi rectangular t s =
+  around_few poi rectangular t s =
       let near = local_to piece obstacles (inset ctx) in
       let anchor = anchor_of poi piece near (inset ctx) in
       let cells = lattice_valid_cells piece anchor (record { spacing = spacing ctx; rectangular = rectangular }) (inset ctx) near (at n) in
@@ -93,13 +93,13 @@ module _ (piece : Piece) (n : ℕ) (ctx : PackCtx) (obstacles : List Rectangle) 
       few ctx.mode.spread ctx.mode.strict_obstacles anchor cells (take_cells cells n anchor true)
       (spread_cells piece n ctx rectangular near anchor (ring_bounds (outer piece)) cells honoring) honoring (ltb (available honoring cells) n) t s refl
 
-  pub trial-few :
+  pub trial_few :
       (found : Deepest) (rectangular : Bool) → ctx.mode.spread ≡ false → ctx.mode.strict_obstacles ≡ true
       → length (pack_uniform_piece found piece n ctx obstacles rectangular) ≤ n
   unfolding pack_uniform_piece
-  trial-few Nothing rectangular e f = omega arith
-  trial-few Full rectangular e f = omega arith
-  trial-few (Found x y clearance) rectangular e f = around-few (point x y) rectangular e f
+  trial_few Nothing rectangular e f = omega arith
+  trial_few Full rectangular e f = omega arith
+  trial_few (Found x y clearance) rectangular e f = around_few (point x y) rectangular e f
 
   -- ---- a sequence of low discrepancy
 
@@ -109,11 +109,11 @@ module _ (piece : Piece) (n : ℕ) (ctx : PackCtx) (obstacles : List Rectangle) 
   low_none Full k = refl
   low_none (Found x y clearance) k = ⊎_elim (λ (a : ◌≡◌ {A = ℕ} 0 1). absurd (omega arith)) (λ (b : ◌≡◌ {A = ℕ} 0 2). absurd (omega arith)) k
 
-  pub low-at :
+  pub low_at :
       (found : Deepest) (x y clearance : Float) (anchor : Anchor) → found ≡ Found x y clearance → anchor ≡ lone_anchor (point x y) piece n ctx obstacles
       → pack_low_discrepancy_piece found piece n ctx obstacles ≡ pack_scatter anchor piece n ctx obstacles
   unfolding pack_low_discrepancy_piece
-  low-at found x y clearance anchor e a = rw (e, a)
+  low_at found x y clearance anchor e a = rw (e, a)
 
 -- ---- by the arrangement
 
@@ -122,14 +122,14 @@ module _ (numbers : Spreading) (options : GlyphOptions) (ctx : PackCtx) (obstacl
   unfolding pack_quota
   quota_none e = rw (eq-eqb n 0 e)
 
-  pub quota-some :
+  pub quota_some :
       (arrangement : GlyphArrangement) → (n ≡ 0 → ⊥) → options.arrangement ≡ arrangement
       → pack_quota numbers options ctx obstacles found piece n rng ≡ pack_piece_from numbers options arrangement ctx obstacles found piece n rng
   unfolding pack_quota
-  quota-some arrangement h e = rw (ne_eqb n 0 h, e)
+  quota_some arrangement h e = rw (ne_eqb n 0 h, e)
 
 -- a packing that is another's
-pub packs-as :
+pub packs_as :
     (mode : PackMode) (n : ℕ) (t s : Thrown) (count : ℕ) (next : Stream) (exit entry : List Float) → t ≡ s
     → Packs mode n s.placed count exit entry → next ≡ s.rng → Packs mode n t.placed count exit entry × (next ≡ t.rng)
-packs-as mode n t s count next exit entry e p r = rw e (p, r)
+packs_as mode n t s count next exit entry e p r = rw e (p, r)

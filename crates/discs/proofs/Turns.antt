@@ -38,12 +38,12 @@ pub pieces_end : (rings sizes : List ℕ) (coords : List Float) (k : ℕ) → le
 unfolding pieces_of
 pieces_end rings sizes coords k h = rw drop_of_length-le
 
-pub laid-turn :
+pub laid_turn :
     (rings sizes : List ℕ) (coords : List Float) (k a c : ℕ) → k < length rings → Laid (drop k rings) (drop a sizes) (drop c coords)
     → Lies (get_or rings k 0) (drop a sizes) (drop c coords)
     × Laid (drop (k + 1) rings) (drop (a + get_or rings k 0) sizes) (drop (c + sum (take (get_or rings k 0) (drop a sizes)) * 2) coords)
 unfolding Laid
-laid-turn rings sizes coords k a c h l =
+laid_turn rings sizes coords k a c h l =
     rw (add-one, ← drop-drop (get_or rings k 0) a sizes, ← drop-drop (sum (take (get_or rings k 0) (drop a sizes)) * 2) c coords)
     (rw (drop-cons rings k 0 h) at l)
 
@@ -99,7 +99,7 @@ module _ {numbers : Spreading} {options : GlyphOptions} {ctx : PackCtx} {obstacl
       → Going numbers options ctx obstacles rings sizes coords quotas deepest start entry k a c placed rng spots → k < length rings
       → Lent rings quotas deepest walls near second flags room → Here rings sizes coords quotas deepest k a c placed
   here {k = k} {a = a} {c = c} g h lent =
-      let l = (laid-turn rings sizes coords k a c h g.laid).0 in
+      let l = (laid_turn rings sizes coords k a c h g.laid).0 in
       let i : k < length quotas = omega (arith, lent.each_quota) in
       record {
         some = l.some;
@@ -169,7 +169,7 @@ module _ (numbers : Spreading) (options : GlyphOptions) (ctx : PackCtx) (obstacl
       ∙ ap (λ (d : Deepest). after (throws d piece (take (length coords - c) (drop c coords))) piece) (sym ef)
 
   laid_next : Laid (drop k rings) (drop a sizes) (drop c coords) → Laid (drop (k + 1) rings) (drop (a + get_or rings k 0) sizes) (drop (c + sum piece * 2) coords)
-  laid_next l = rw (piece_part o) (laid-turn rings sizes coords k a c h l).1
+  laid_next l = rw (piece_part o) (laid_turn rings sizes coords k a c h l).1
 
   pub turn :
       (start : Stream) (entry spots part : List Float) (count w : ℕ) (next : Stream) → Going numbers options ctx obstacles rings sizes coords quotas deepest start entry k a c placed rng spots

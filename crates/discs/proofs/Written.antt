@@ -44,11 +44,11 @@ module _ {A : Type 0} where
   whole (suc m) (x ∷ l) = ap (λ (t : List A). x ∷ t) (whole m l)
 
   -- a part, written by itself
-  pub part-written :
+  pub part_written :
       (a m : ℕ) (xs l : List A) → length xs ≤ m → a + m ≤ length l
       → take a l ++ (written xs (take m (drop a l)) ++ drop m (drop a l)) ≡ written_at a xs l
   unfolding written_at written
-  part-written a m xs l k h =
+  part_written a m xs l k h =
       let d = drop a l in
       let j : length xs ≤ length (take m d) = simp (length-take, length-drop) (omega arith) in
       ap (λ (t : List A). take a l ++ t)
@@ -59,7 +59,7 @@ module _ {A : Type 0} where
   pub run_next :
       (a m : ℕ) (xs ys l part : List A) → part ≡ written xs (take m (drop a l)) → length xs ≤ m → a + m ≤ length l
       → written_at a (xs ++ ys) l ≡ written_at (a + length xs) ys (take a l ++ (part ++ drop m (drop a l)))
-  run_next a m xs ys l part e k h = rw (e, part-written a m xs l k h) (at_next a (length xs) xs ys l refl (omega arith))
+  run_next a m xs ys l part e k h = rw (e, part_written a m xs l k h) (at_next a (length xs) xs ys l refl (omega arith))
 
   -- no longer than the slice that it was written to
   pub written_fits : (xs l : List A) → length (written xs l) ≡ length l → length xs ≤ length l

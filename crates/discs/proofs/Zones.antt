@@ -66,13 +66,13 @@ module _ (a c n : ℕ) (sizes : List ℕ) (coords : List Float) (o : Lies n (dro
   piece_after h = rw (part_is a n sizes) (omega (arith, o.within, length-drop c coords))
 
 -- a turn over its area
-pub area-turn :
+pub area_turn :
     (rings sizes : List ℕ) (coords : List Float) (k a c w : ℕ) (x area : Float) → k < length rings
     → x ≡ piece_area (piece_of (take (a + get_or rings k 0 - a) (drop a sizes)) (take (length coords - c) (drop c coords)))
     → w ≡ sum (take (a + get_or rings k 0 - a) (drop a sizes)) * 2
     → foldl ◌+ᶠ◌ area (areas (pieces_of (drop k rings) (drop a sizes) (drop c coords)))
     ≡ foldl ◌+ᶠ◌ (area +ᶠ x) (areas (pieces_of (drop (k + 1) rings) (drop (a + get_or rings k 0) sizes) (drop (c + w) coords)))
-area-turn rings sizes coords k a c w x area h e f =
+area_turn rings sizes coords k a c w x area h e f =
     rw (e, f, part_is a (get_or rings k 0) sizes, rest_is coords c, pieces_turn rings sizes coords k a c h)
 
 module _ (s rings sizes : List ℕ) (coords : List Float) (quotas : List ℕ) (deepest : List Float) where
@@ -82,20 +82,20 @@ module _ (s rings sizes : List ℕ) (coords : List Float) (quotas : List ℕ) (d
 
   -- the parts that the code hands on
   module _ (row : Row) (at : Offsets) where
-    pub laid-parts :
+    pub laid_parts :
         Stands rings sizes coords deepest row at
         → Laid (take (at.piece + row.pieces - at.piece) (drop at.piece rings)) (take (length sizes - at.ring) (drop at.ring sizes)) (take (length coords - at.coord) (drop at.coord coords))
-    laid-parts h = rw (part_is at.piece row.pieces rings, rest_is sizes at.ring, rest_is coords at.coord) h.laid
+    laid_parts h = rw (part_is at.piece row.pieces rings, rest_is sizes at.ring, rest_is coords at.coord) h.laid
 
     pub points_part : take ((at.piece + row.pieces) * 3 - at.piece * 3) (drop (at.piece * 3) deepest) ≡ cut (at.piece * 3) (row.pieces * 3) deepest
     points_part =
         let e : (at.piece + row.pieces) * 3 - at.piece * 3 ≡ row.pieces * 3 = omega arith in
         rw e
 
-    pub lent-parts :
+    pub lent_parts :
         (obstacles near second flags spots : List Float) → Packable s rings sizes coords quotas deepest row at → row_is_left_in row ≡ true → Lends obstacles near second flags spots
         → Lent (take (at.piece + row.pieces - at.piece) (drop at.piece rings)) (take (at.piece + row.pieces - at.piece) (drop at.piece quotas)) (take ((at.piece + row.pieces) * 3 - at.piece * 3) (drop (at.piece * 3) deepest)) obstacles near second flags spots
-    lent-parts obstacles near second flags spots p left l =
+    lent_parts obstacles near second flags spots p left l =
         let r : length (cut at.piece row.pieces rings) ≡ row.pieces = length_cut at.piece row.pieces rings p.stands.pieces in
         let q : length (cut at.piece row.pieces quotas) ≡ row.pieces = length_cut at.piece row.pieces quotas p.shared in
         let d : length (cut (at.piece * 3) (row.pieces * 3) deepest) ≡ row.pieces * 3 = length_cut (at.piece * 3) (row.pieces * 3) deepest (omega (arith, p.stands.points)) in
@@ -112,12 +112,12 @@ module _ (s rings sizes : List ℕ) (coords : List Float) (quotas : List ℕ) (d
   -- ---- all zones
 
   module _ (rows : List ℕ) (z n : ℕ) (at : Offsets) where
-    handed-turn :
+    handed_turn :
         z < n
         → handed_from s rings sizes coords quotas deepest rows (n - z) z at
         ≡ handed_at s rings sizes coords quotas deepest (row_of rows z) at ∷ handed_from s rings sizes coords quotas deepest rows (n - (z + 1)) (z + 1) (past_row rings sizes (row_of rows z) at)
     unfolding handed_from
-    handed-turn h =
+    handed_turn h =
         let e : n - z ≡ suc (n - (z + 1)) = omega arith in
         rw e
 
@@ -127,12 +127,12 @@ module _ (s rings sizes : List ℕ) (coords : List Float) (quotas : List ℕ) (d
         let e : n - z ≡ 0 = omega arith in
         rw e
 
-    pub ceiling-turn :
+    pub ceiling_turn :
         (gap r-hi : Float) → z < n
         → foldl (lowered_by gap) r-hi (handed_work (handed_from s rings sizes coords quotas deepest rows (n - z) z at))
         ≡ foldl (lowered_by gap) (lowering gap r-hi (handed_at s rings sizes coords quotas deepest (row_of rows z) at))
         (handed_work (handed_from s rings sizes coords quotas deepest rows (n - (z + 1)) (z + 1) (past_row rings sizes (row_of rows z) at)))
-    ceiling-turn gap r-hi h = rw (handed-turn h) (fold_work gap r-hi (handed_at s rings sizes coords quotas deepest (row_of rows z) at) _)
+    ceiling_turn gap r-hi h = rw (handed_turn h) (fold_work gap r-hi (handed_at s rings sizes coords quotas deepest (row_of rows z) at) _)
       where
         go : (gap r-hi : Float) (b : Bool) (x : Handed) (xs : List Handed)
             → foldl (lowered_by gap) r-hi (cond b (x ∷ xs) xs) ≡ foldl (lowered_by gap) (cond b (lowered_by gap r-hi x) r-hi) xs
@@ -143,13 +143,13 @@ module _ (s rings sizes : List ℕ) (coords : List Float) (quotas : List ℕ) (d
             → foldl (lowered_by gap) r-hi (handed_work (x ∷ xs)) ≡ foldl (lowered_by gap) (lowering gap r-hi x) (handed_work xs)
         fold_work gap r-hi x xs = unfold handed_work lowering in go gap r-hi (is_left_in x.zone) x (handed_work xs)
 
-    pub trial-turn :
+    pub trial_turn :
         (numbers : Spreading) (options : GlyphOptions) (ctx : PackCtx) (obstacles : List Rectangle) → z < n
         → all (holds_all numbers options ctx obstacles) (handed_work (handed_from s rings sizes coords quotas deepest rows (n - z) z at))
         ≡ holding numbers options ctx obstacles (handed_at s rings sizes coords quotas deepest (row_of rows z) at)
         && all (holds_all numbers options ctx obstacles) (handed_work (handed_from s rings sizes coords quotas deepest rows (n - (z + 1)) (z + 1) (past_row rings sizes (row_of rows z) at)))
-    trial-turn numbers options ctx obstacles h =
-        rw (handed-turn h) (all_work (holds_all numbers options ctx obstacles) (handed_at s rings sizes coords quotas deepest (row_of rows z) at) _ ∙ unfold holding in refl)
+    trial_turn numbers options ctx obstacles h =
+        rw (handed_turn h) (all_work (holds_all numbers options ctx obstacles) (handed_at s rings sizes coords quotas deepest (row_of rows z) at) _ ∙ unfold holding in refl)
       where
         go : (p : Handed → Bool) (b : Bool) (x : Handed) (xs : List Handed) → all p (cond b (x ∷ xs) xs) ≡ cond b (p x) true && all p xs
         go p true x xs = unfold all in refl

@@ -16,7 +16,7 @@ use Rattle.deepest.specs.declared.search.Deepest.TheVariants.{Nothing}
 use Rattle.relax.specs.declared.Spreading.{Spreading}
 use Rattle.lattice.specs.declared.context.PackCtx.{PackCtx}
 use Rattle.discs.specs.Region.{Zone, quotas, deepest_of, pack_region, placed_in}
-use Rattle.discs.specs.PieceLaws.{Own, region-own}
+use Rattle.discs.specs.PieceLaws.{Own, region_own}
 use Rattle.discs.specs.Radius.{boundary_gap_of, context_at, area_of, lowered, if_positive, analytic_r_hi, probe, feasible}
 use Rattle.discs.specs.PlaceGlyphs.{is_left_in, work_of, size_for, sizing}
 use Rattle.discs.specs.Floor.{row_of, past_row, Handed, handed_work, deepest_in, lowered_by, handed_r_hi, pack_handed, holds_all, handed_feasible, EachRow, Stands, Packable}
@@ -43,18 +43,18 @@ work_zones (h ∷ hs) = picked (is_left_in h.zone) h (handed_work hs) (work_of (
 module _ (room : ℕ) (options : GlyphOptions) where
   -- ---- the ceiling
 
-  deeper-fold :
+  deeper_fold :
       (best : Deepest) (pieces : List Piece)
       → foldl deeper_of best (map (deepest_of room options) pieces)
       ≡ foldl (λ (best : Deepest) (piece : Piece). deeper_of best (deepest_point room options.precision piece)) best pieces
   unfolding poi_with_holes deeper_of
-  deeper-fold best [] = refl
-  deeper-fold best (piece ∷ pieces) = deeper-fold (deeper_of best (deepest_point room options.precision piece)) pieces
+  deeper_fold best [] = refl
+  deeper_fold best (piece ∷ pieces) = deeper_fold (deeper_of best (deepest_point room options.precision piece)) pieces
 
   -- the deepest point of pieces is the first of their deepest
   pub deepest_own : (pieces : List Piece) → deepest_in (map (deepest_of room options) pieces) ≡ poi_with_holes room options.precision pieces
   unfolding deepest_in poi_with_holes
-  deepest_own pieces = deeper-fold Nothing pieces
+  deepest_own pieces = deeper_fold Nothing pieces
 
   abbrev pub OwnPoints : Handed → Type 0
   OwnPoints h = h.deepests ≡ map (deepest_of room options) h.zone.pieces
@@ -83,59 +83,59 @@ module _ (room : ℕ) (options : GlyphOptions) where
     pub points : Own room options h.zone.pieces h.deepests (quotas h.zone)
 
   module _ (numbers : Spreading) where
-    pub pack-own :
+    pub pack_own :
         (ctx : PackCtx) (obstacles : List Rectangle) (h : Handed) → OwnPacking h
         → pack_handed numbers options ctx obstacles h ≡ pack_region room numbers options ctx obstacles h.zone
     unfolding pack_handed
-    pack-own ctx obstacles h o = rw o.shares (region-own room numbers options ctx obstacles h.zone h.deepests o.points)
+    pack_own ctx obstacles h o = rw o.shares (region_own room numbers options ctx obstacles h.zone h.deepests o.points)
 
-    trials-own :
+    trials_own :
         (ctx : PackCtx) (obstacles : List Rectangle) (hs : List Handed) → Every OwnPacking hs
         → all (holds_all numbers options ctx obstacles) hs ≡ all (λ (zone : Zone). nat_eq (placed_in (pack_region room numbers options ctx obstacles zone)) zone.count) (zones_of hs)
     unfolding all holds_all
-    trials-own ctx obstacles [] o = refl
-    trials-own ctx obstacles (h ∷ hs) o = rw (pack-own ctx obstacles h o.0, trials-own ctx obstacles hs o.1)
+    trials_own ctx obstacles [] o = refl
+    trials_own ctx obstacles (h ∷ hs) o = rw (pack_own ctx obstacles h o.0, trials_own ctx obstacles hs o.1)
 
-    pub feasible-own :
+    pub feasible_own :
         (hs : List Handed) → Every OwnPacking hs → (obstacles : List Rectangle) (r : Float)
         → handed_feasible numbers options hs obstacles r ≡ feasible room numbers options (zones_of hs) obstacles r
     unfolding handed_feasible feasible
-    feasible-own hs o obstacles r = trials-own (context_at options probe r) obstacles hs o
+    feasible_own hs o obstacles r = trials_own (context_at options probe r) obstacles hs o
 
     -- ---- the size
 
-    pub size-own :
+    pub size_own :
         (hs : List Handed) → Every OwnPacking hs → (obstacles : List Rectangle) (radius : Radius) (ceiling : Chosen)
         → size_for (handed_feasible numbers options hs) obstacles radius ceiling ≡ size_for (feasible room numbers options (zones_of hs)) obstacles radius ceiling
-    size-own hs o obstacles radius ceiling =
+    size_own hs o obstacles radius ceiling =
         let e : handed_feasible numbers options hs ≡ feasible room numbers options (zones_of hs) =
-        fun_ext (λ (obstacles : List Rectangle). fun_ext (λ (r : Float). feasible-own hs o obstacles r)) in
+        fun_ext (λ (obstacles : List Rectangle). fun_ext (λ (r : Float). feasible_own hs o obstacles r)) in
         ap (λ (fits : List Rectangle → Float → Bool). size_for fits obstacles radius ceiling) e
 
     -- the radius and the trial counts of `place_glyphs`
-    pub sizing-own :
+    pub sizing_own :
         (given : List Rectangle) (hs : List Handed) → Every OwnPacking (handed_work hs) → Every OwnPoints (handed_work hs)
         → size_for (handed_feasible numbers options (handed_work hs)) (sanitize_obstacles given) options.radius (handed_r_hi (handed_work hs) (boundary_gap_of options))
         ≡ sizing room numbers options given (zones_of hs)
     unfolding sizing
-    sizing-own given hs p d =
-        size-own (handed_work hs) p (sanitize_obstacles given) options.radius (handed_r_hi (handed_work hs) (boundary_gap_of options))
+    sizing_own given hs p d =
+        size_own (handed_work hs) p (sanitize_obstacles given) options.radius (handed_r_hi (handed_work hs) (boundary_gap_of options))
         ∙ rw (ceiling_own (boundary_gap_of options) (handed_work hs) d, work_zones hs)
 
 -- a stated radius asks for no trial and no ceiling
-pub stated-any :
+pub stated_any :
     (f g : List Rectangle → Float → Bool) (a b : List Rectangle) (r : Float) (c d : Chosen)
     → size_for f a (Stated r) c ≡ size_for g b (Stated r) d
 unfolding size_for
-stated-any f g a b r c d = refl
+stated_any f g a b r c d = refl
 
 -- ---- what the code asks
 
-pub rows-stand :
+pub rows_stand :
     (s rows rings sizes : List ℕ) (coords : List Float) (quotas : List ℕ) (deepest : List Float) (n z : ℕ) (at : Offsets)
     → EachRow rows rings sizes (Packable s rings sizes coords quotas deepest) n z at
     → EachRow rows rings sizes (Stands rings sizes coords deepest) n z at
 unfolding EachRow
-rows-stand s rows rings sizes coords quotas deepest zero z at e = tt
-rows-stand s rows rings sizes coords quotas deepest (suc n) z at e =
-    (e.0.stands, rows-stand s rows rings sizes coords quotas deepest n (z + 1) (past_row rings sizes (row_of rows z) at) e.1)
+rows_stand s rows rings sizes coords quotas deepest zero z at e = tt
+rows_stand s rows rings sizes coords quotas deepest (suc n) z at e =
+    (e.0.stands, rows_stand s rows rings sizes coords quotas deepest n (z + 1) (past_row rings sizes (row_of rows z) at) e.1)

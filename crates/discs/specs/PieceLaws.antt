@@ -80,16 +80,16 @@ some_mark zero e = absurd (eqb-false 0 0 e refl)
 some_mark (suc n) e = lt-ltb 0 (suc n) (omega arith)
 
 module _ (room : ℕ) (numbers : Spreading) (options : GlyphOptions) (ctx : PackCtx) (obstacles : List Rectangle) where
-  piece-own :
+  piece_own :
       (arrangement : GlyphArrangement) (found : Deepest) (piece : Piece) (quota : ℕ) (rng : Stream) → (quota == 0) ≡ false
       → (starts_deepest arrangement piece quota ≡ true → found ≡ deepest_of room options piece)
       → pack_piece_from numbers options arrangement ctx obstacles found piece quota rng ≡ pack_piece room numbers options arrangement ctx obstacles piece quota rng
   unfolding starts_deepest pack_piece_from pack_piece
-  piece-own Uniform found piece quota rng e h = rw (h (some_mark quota e))
-  piece-own Rectangular found piece quota rng e h = rw (h (some_mark quota e))
-  piece-own LowDiscrepancy found piece quota rng e h =
+  piece_own Uniform found piece quota rng e h = rw (h (some_mark quota e))
+  piece_own Rectangular found piece quota rng e h = rw (h (some_mark quota e))
+  piece_own LowDiscrepancy found piece quota rng e h =
       rw (low_same piece quota ctx obstacles found (deepest_of room options piece) (quota == 1) (ring_bounds (outer piece)) refl refl h)
-  piece-own Random found piece quota rng e h = refl
+  piece_own Random found piece quota rng e h = refl
 
   -- the first piece, where the later ones are known
   pieces_more :
@@ -112,47 +112,47 @@ module _ (room : ℕ) (numbers : Spreading) (options : GlyphOptions) (ctx : Pack
           ≡ cond b ([] ∷ pack_pieces room numbers options ctx obstacles pieces quotas rng) (own.placed ∷ pack_pieces room numbers options ctx obstacles pieces quotas own.rng)
       go true e = ap (λ (t : List (List Point)). [] ∷ t) (later rng)
       go false e =
-          ap with (piece-own options.arrangement found piece quota rng e h)
+          ap with (piece_own options.arrangement found piece quota rng e h)
           ∙ ap (λ (t : List (List Point)). own.placed ∷ t) (later own.rng)
 
-  pub pieces-own :
+  pub pieces_own :
       (pieces : List Piece) (deepests : List Deepest) (quotas : List ℕ) (rng : Stream) → Own room options pieces deepests quotas
       → pack_pieces_from numbers options ctx obstacles pieces deepests quotas rng ≡ pack_pieces room numbers options ctx obstacles pieces quotas rng
-  pieces-own [] deepests quotas rng h = unfold pack_pieces_from pack_pieces in refl
-  pieces-own (piece ∷ pieces) [] [] rng h = unfold pack_pieces_from pack_pieces in refl
-  pieces-own (piece ∷ pieces) (found ∷ deepests) [] rng h = unfold pack_pieces_from pack_pieces in refl
-  pieces-own (piece ∷ pieces) [] (quota ∷ quotas) rng h = absurd h
-  pieces-own (piece ∷ pieces) (found ∷ deepests) (quota ∷ quotas) rng h =
-      pieces_more piece pieces found deepests quota quotas rng h.0 (λ (next : Stream). pieces-own pieces deepests quotas next h.1)
+  pieces_own [] deepests quotas rng h = unfold pack_pieces_from pack_pieces in refl
+  pieces_own (piece ∷ pieces) [] [] rng h = unfold pack_pieces_from pack_pieces in refl
+  pieces_own (piece ∷ pieces) (found ∷ deepests) [] rng h = unfold pack_pieces_from pack_pieces in refl
+  pieces_own (piece ∷ pieces) [] (quota ∷ quotas) rng h = absurd h
+  pieces_own (piece ∷ pieces) (found ∷ deepests) (quota ∷ quotas) rng h =
+      pieces_more piece pieces found deepests quota quotas rng h.0 (λ (next : Stream). pieces_own pieces deepests quotas next h.1)
 
   -- a zone with its own quotas
-  pub region-own :
+  pub region_own :
       (zone : Zone) (deepests : List Deepest) → Own room options zone.pieces deepests (quotas zone)
       → pack_pieces_from numbers options ctx obstacles zone.pieces deepests (quotas zone) (seeded options.seed (fnv1a zone.key))
       ≡ pack_region room numbers options ctx obstacles zone
   unfolding pack_region
-  region-own zone deepests h = pieces-own zone.pieces deepests (quotas zone) (seeded options.seed (fnv1a zone.key)) h
+  region_own zone deepests h = pieces_own zone.pieces deepests (quotas zone) (seeded options.seed (fnv1a zone.key)) h
 
   -- what is packed of a piece is its own packing, from the stream as it is then
-  pub piece-at :
+  pub piece_at :
       (pieces : List Piece) (deepests : List Deepest) (quotas : List ℕ) (rng : Stream) (i : ℕ) → i < length (pack_pieces_from numbers options ctx obstacles pieces deepests quotas rng)
       → (now : Stream)
       × (slice_index_or (pack_pieces_from numbers options ctx obstacles pieces deepests quotas rng) i []
       ≡ (pack_quota numbers options ctx obstacles (slice_index_or deepests i Nothing) (slice_index_or pieces i []) (slice_index quotas i) now).placed)
   unfolding pack_pieces_from
-  piece-at [] deepests quotas rng i h = absurd (omega arith)
-  piece-at (piece ∷ pieces) [] quotas rng i h = absurd (omega arith)
-  piece-at (piece ∷ pieces) (found ∷ deepests) [] rng i h = absurd (omega arith)
-  piece-at (piece ∷ pieces) (found ∷ deepests) (quota ∷ quotas) rng zero h = (rng, refl)
-  piece-at (piece ∷ pieces) (found ∷ deepests) (quota ∷ quotas) rng (suc i) h =
-      piece-at pieces deepests quotas (pack_quota numbers options ctx obstacles found piece quota rng).rng i (omega arith)
+  piece_at [] deepests quotas rng i h = absurd (omega arith)
+  piece_at (piece ∷ pieces) [] quotas rng i h = absurd (omega arith)
+  piece_at (piece ∷ pieces) (found ∷ deepests) [] rng i h = absurd (omega arith)
+  piece_at (piece ∷ pieces) (found ∷ deepests) (quota ∷ quotas) rng zero h = (rng, refl)
+  piece_at (piece ∷ pieces) (found ∷ deepests) (quota ∷ quotas) rng (suc i) h =
+      piece_at pieces deepests quotas (pack_quota numbers options ctx obstacles found piece quota rng).rng i (omega arith)
 
-  pub length-packed :
+  pub length_packed :
       (pieces : List Piece) (deepests : List Deepest) (quotas : List ℕ) (rng : Stream) → length pieces ≤ length deepests → length pieces ≤ length quotas
       → length (pack_pieces_from numbers options ctx obstacles pieces deepests quotas rng) ≡ length pieces
   unfolding pack_pieces_from
-  length-packed [] deepests quotas rng d q = refl
-  length-packed (piece ∷ pieces) [] quotas rng d q = absurd (omega arith)
-  length-packed (piece ∷ pieces) (found ∷ deepests) [] rng d q = absurd (omega arith)
-  length-packed (piece ∷ pieces) (found ∷ deepests) (quota ∷ quotas) rng d q =
-      ap suc (length-packed pieces deepests quotas (pack_quota numbers options ctx obstacles found piece quota rng).rng (omega arith) (omega arith))
+  length_packed [] deepests quotas rng d q = refl
+  length_packed (piece ∷ pieces) [] quotas rng d q = absurd (omega arith)
+  length_packed (piece ∷ pieces) (found ∷ deepests) [] rng d q = absurd (omega arith)
+  length_packed (piece ∷ pieces) (found ∷ deepests) (quota ∷ quotas) rng d q =
+      ap suc (length_packed pieces deepests quotas (pack_quota numbers options ctx obstacles found piece quota rng).rng (omega arith) (omega arith))

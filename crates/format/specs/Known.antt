@@ -17,14 +17,14 @@ All P [] = Unit {0}
 All P (x ∷ xs) = P x × All P xs
 
 -- things without fault, one after the other
-pub all-each :
+pub all_each :
     {S A : Type 0} (P : A → Type 0) (fault : S → ℕ) (next : S → S) (view : S → A) → ((z : S) → fault z ≡ 0 → P (view z))
     → (n : ℕ) (at : S) → faults fault next n at ≡ 0 → All P (each view next n at)
 unfolding faults each
-all-each P fault next view h zero at e = tt
-all-each P fault next view h (suc n) at e =
+all_each P fault next view h zero at e = tt
+all_each P fault next view h (suc n) at e =
     let p = both (fault at) (faults fault next n (next at)) e in
-    (h at p.0, all-each P fault next view h n (next at) p.1)
+    (h at p.0, all_each P fault next view h n (next at) p.1)
 
 -- ---- coordinates
 
@@ -33,7 +33,7 @@ unfolding coord_in coord_at
 coord_known s number h at e = coordinate (u32 s at) (passed number (in_range (u32 s at)) h (both _ _ e).1)
 
 pub coords_known : (s : List ℕ) (number n at : ℕ) → 1 ≤ number → faults (coord_in s number) next_coord n at ≡ 0 → All Coordinate (each (coord_at s) next_coord n at)
-coords_known s number n at h e = all-each Coordinate (coord_in s number) next_coord (coord_at s) (coord_known s number h) n at e
+coords_known s number n at h e = all_each Coordinate (coord_in s number) next_coord (coord_at s) (coord_known s number h) n at e
 
 -- ---- rings and pieces
 
@@ -67,5 +67,5 @@ piece_known s at e =
     record {
       some = omega (arith, i.from);
       few = omega (arith, i.to);
-      rings = unfold piece in all-each RingKnown (ring_fault s) (ring_end s) (ring s) (ring_known s) (u8 s at) (at + 1) p.1;
+      rings = unfold piece in all_each RingKnown (ring_fault s) (ring_end s) (ring s) (ring_known s) (u8 s at) (at + 1) p.1;
     }

@@ -114,10 +114,10 @@ nan_bits (fin s m e) h = let z : false ≡ true = h in cc
 pub room_first : (k at from len room n : ℕ) → 4 * k ≤ at → at ≤ from → from ≤ len → len ≤ 4 * room → k + min n ((len - from) / 4) ≤ room
 room_first k at from len room n b h i e = omega arith
 
-pub room-turn :
+pub room_turn :
     (k left at len room : ℕ) → 0 < left → at + 4 ≤ len → k + min left ((len - at) / 4) ≤ room
     → (k < room) × (k + 1 + min (left - 1) ((len - (at + 4)) / 4) ≤ room)
-room-turn k left at len room m h r =
+room_turn k left at len room m h r =
     let e : (len - at) / 4 ≡ suc ((len - (at + 4)) / 4) = omega arith in
     let q : k + min left (suc ((len - (at + 4)) / 4)) ≤ room = rw e at r in
     (omega arith, omega arith)

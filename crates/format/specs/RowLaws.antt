@@ -147,12 +147,12 @@ module _ {S : Type 0} (next : S → S) where
     length_each zero at = refl
     length_each (suc n) at = rw (length_each n (next at))
 
-    pub store-turn :
+    pub store_turn :
         {x out' : List A} {k' : ℕ} {to : S} (out : List A) (k n : ℕ) (at : S) → 0 < n → to ≡ next at → k' ≡ k + 1 → out' ≡ set out k (view at)
         → x ≡ sets out k (each view next n at) → x ≡ sets out' k' (each view next (n - 1) to)
     unfolding each
-    store-turn out k zero at m t j o e = absurd (omega arith)
-    store-turn out k (suc n) at m t j o e = e ∙ rw (less_one n, t, j, o, add-one)
+    store_turn out k zero at m t j o e = absurd (omega arith)
+    store_turn out k (suc n) at m t j o e = e ∙ rw (less_one n, t, j, o, add-one)
 
     pub store_end : {x : List A} (out : List A) (k n : ℕ) (at : S) → n ≤ 0 → x ≡ sets out k (each view next n at) → out ≡ x
     unfolding each
@@ -161,24 +161,24 @@ module _ {S : Type 0} (next : S → S) where
 
   -- some stores a turn
   module _ {A : Type 0} (view : S → List A) where
-    pub length-turn :
+    pub length_turn :
         {r k' : ℕ} {to : S} (k n : ℕ) (at : S) → 0 < n → to ≡ next at → k' ≡ k + length (view at)
         → r ≡ k + length (flat view next n at) → r ≡ k' + length (flat view next (n - 1) to)
     unfolding flat
-    length-turn k zero at m t j e = absurd (omega arith)
-    length-turn k (suc n) at m t j e = rw (less_one n, t) (omega (arith, length-append (view at) (flat view next n (next at))))
+    length_turn k zero at m t j e = absurd (omega arith)
+    length_turn k (suc n) at m t j e = rw (less_one n, t) (omega (arith, length-append (view at) (flat view next n (next at))))
 
     pub length_end : {r : ℕ} (k n : ℕ) (at : S) → n ≤ 0 → r ≡ k + length (flat view next n at) → k ≡ r
     unfolding flat
     length_end k zero at h e = omega arith
     length_end k (suc n) at h e = absurd (omega arith)
 
-    pub put-turn :
+    pub put_turn :
         {x out' : List A} {k' : ℕ} {to : S} (out : List A) (k n : ℕ) (at : S) → 0 < n → to ≡ next at → k' ≡ k + length (view at) → out' ≡ sets out k (view at)
         → x ≡ sets out k (flat view next n at) → x ≡ sets out' k' (flat view next (n - 1) to)
     unfolding flat
-    put-turn out k zero at m t j o e = absurd (omega arith)
-    put-turn out k (suc n) at m t j o e = e ∙ rw (less_one n, t, j, o) (sets_append out k (view at) (flat view next n (next at)))
+    put_turn out k zero at m t j o e = absurd (omega arith)
+    put_turn out k (suc n) at m t j o e = e ∙ rw (less_one n, t, j, o) (sets_append out k (view at) (flat view next n (next at)))
 
     pub put_end : {x : List A} (out : List A) (k n : ℕ) (at : S) → n ≤ 0 → x ≡ sets out k (flat view next n at) → out ≡ x
     unfolding flat

@@ -178,12 +178,12 @@ floor_below n sum weights i d h k = omega (arith, below weights i h)
     below (w ∷ ws) (suc i) h = omega (arith, below ws i (omega arith), add_from (0 + whole_share n sum w) (map (whole_share n sum) ws))
 
 -- two indices by the keys of their remainders
-pub by-keys :
+pub by_keys :
     (n : ℕ) (sum : Float) (weights : List Float) (i j : ℕ) (d : Float) → i < length weights → j < length weights
     → by_remainder (rems n sum weights) j i
     ≡ compare (total_key (remainder n sum (slice_index_or weights i d))) (total_key (remainder n sum (slice_index_or weights j d))) thenBy compare j i
 unfolding by_remainder total_cmp rems
-by-keys n sum weights i j d h k = rw (get_d_map (remainder n sum) weights i d nan h, get_d_map (remainder n sum) weights j d nan k)
+by_keys n sum weights i j d h k = rw (get_d_map (remainder n sum) weights i d nan h, get_d_map (remainder n sum) weights j d nan k)
 
 -- the quota where there is weight: the floor, and one by the rank
 pub by_rank :

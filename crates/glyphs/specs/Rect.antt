@@ -71,10 +71,10 @@ obstacles_near (Box min-x max-x min-y max-y) obstacles clearance = filter (λ re
 
 -- ---- laws
 
-pub rects-step :
+pub rects_step :
     (l : List Float) (k n : ℕ) → k < n → rects_from l k (n - k) ≡ rect_at l k ∷ rects_from l (k + 1) (n - (k + 1))
 unfolding rects_from
-rects-step l k n h =
+rects_step l k n h =
     let e : n - k ≡ suc (n - (k + 1)) = omega arith in
     rw e
 

@@ -32,12 +32,12 @@ put : {A : Type 0} {out' : List A} (out ys xs : List A) → out' ≡ sets out 0 
 put out ys xs e h l = e ∙ rw h (sets_written xs out (rw (← h) l))
 
 module _ (s : List ℕ) (out : List Float) (sizes counts rows : List ℕ) (to : Cursor) (out' : List Float) (sizes' counts' rows' : List ℕ) where
-  pub job-put :
+  pub job_put :
       u16 s (zones_at s) ≤ 64 → length s ≤ 4 * length out → 9216 ≤ length sizes → 1024 ≤ length counts → 256 ≤ length rows
       → ZonesPut s (u16 s (zones_at s)) (record { at = zones_at s + 2; coords = 0; rings = 0; pieces = 0 }) out sizes counts rows to out' sizes' counts' rows'
       → JobPut s out sizes counts rows out' sizes' counts' rows'
   unfolding rows_of
-  job-put n a b c d z =
+  job_put n a b c d z =
       let p = z.pieces in
       record {
         coords = put out _ (coords_of (zones s)) p.put (all_coords s) (omega (arith, p.coords, p.behind, p.inside));

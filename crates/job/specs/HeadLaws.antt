@@ -44,10 +44,10 @@ length_obstacles s = length_each next_coord (coord_at s) (4 * u16 s obstacles_at
 
 -- ---- options are equal where their parts are
 
-pub same-options :
+pub same_options :
     {a b : GlyphArrangement} {r q : Radius} {g h : Float} {k l : BoundaryGap} {d e : ℕ} {p o : Float} {m n : ℕ} {x y : ObstaclePolicy}
     → a ≡ b → r ≡ q → g ≡ h → k ≡ l → d ≡ e → p ≡ o → m ≡ n → x ≡ y
     → ◌≡◌ {A = GlyphOptions}
     (record { arrangement = a; radius = r; gap = g; boundary_gap = k; seed = d; precision = p; max_attempts = m; obstacle_policy = x })
     (record { arrangement = b; radius = q; gap = h; boundary_gap = l; seed = e; precision = o; max_attempts = n; obstacle_policy = y })
-same-options i1 i2 i3 i4 i5 i6 i7 i8 = rw (i1, i2, i3, i4, i5, i6, i7, i8)
+same_options i1 i2 i3 i4 i5 i6 i7 i8 = rw (i1, i2, i3, i4, i5, i6, i7, i8)

@@ -14,7 +14,7 @@ use Rattle.format.specs.Pieces.{piece, piece_end, piece_fault}
 use Rattle.format.specs.RowLaws.{both, length_each}
 use Rattle.format.specs.NumberLaws.{item_passed, length_part}
 use Rattle.format.specs.Exact.{Coordinate}
-use Rattle.format.specs.Known.{All, all-each, coords_known, PieceKnown, piece_known}
+use Rattle.format.specs.Known.{All, all_each, coords_known, PieceKnown, piece_known}
 use Rattle.job.specs.Head.{radius_kind_at, radius_at, gap_at, boundary_kind_at, boundary_gap_at, precision_at, attempts_at, obstacles_at, number_after, choices_fault, measures_fault, head_fault, radius_of, boundary_of, options_of, obstacles_fault, obstacles}
 use Rattle.job.specs.HeadLaws.{length_obstacles}
 use Rattle.job.specs.Zones.{Place, zone, zone_end, zone_next, zone_fault, opening_fault, key_fault, key_at, count_at, marks_at, pieces_at}
@@ -98,7 +98,7 @@ zone_known s z e =
       some = omega (arith, i.from);
       short = omega (arith, i.to);
       few = omega (arith, (opening_passed s z o).pieces, length_each (piece_end s) (piece s) (pieces_at s at) (count_at s at + 3));
-      pieces = all-each PieceKnown (piece_fault s) (piece_end s) (piece s) (piece_known s) (pieces_at s at) (count_at s at + 3) p.1;
+      pieces = all_each PieceKnown (piece_fault s) (piece_end s) (piece s) (piece_known s) (pieces_at s at) (count_at s at + 3) p.1;
     }
 
 -- the marks of all zones
@@ -106,15 +106,15 @@ unfoldable pub marks_of : List Zone → ℕ
 marks_of [] = 0
 marks_of (z ∷ zs) = z.count + marks_of zs
 
-zones-known :
+zones_known :
     (s : List ℕ) (n : ℕ) (z : Place) → z.marks ≤ 2000 → faults (zone_fault s) (zone_next s) n z ≡ 0
     → All ZoneKnown (each (zone s) (zone_end s) n z.at) × (z.marks + marks_of (each (zone s) (zone_end s) n z.at) ≤ 2000)
 unfolding faults each zone_next marks_of
-zones-known s zero z h e = (tt, omega arith)
-zones-known s (suc n) z h e =
+zones_known s zero z h e = (tt, omega arith)
+zones_known s (suc n) z h e =
     let p = both (zone_fault s z) (faults (zone_fault s) (zone_next s) n (zone_next s z)) e in
     let t : z.marks + marks_at s z.at ≤ 2000 = total s z p.0 in
-    let r = zones-known s n (zone_next s z) t p.1 in
+    let r = zones_known s n (zone_next s z) t p.1 in
     ((zone_known s z p.0, r.0), count s n z r.1)
   where
     total : (s : List ℕ) (z : Place) → zone_fault s z ≡ 0 → z.marks + marks_at s z.at ≤ 2000
@@ -143,7 +143,7 @@ job_known s e =
     let z = both _ _ (both _ _ h.1).1 in
     let n = item_passed 2 s obstacles_at 0 64 8 (omega arith) o.0 in
     let m = item_passed 2 s (zones_at s) 0 64 9 (omega arith) z.0 in
-    let k = zones-known s (u16 s (zones_at s)) (first_zone s) (omega arith) (both _ _ z.1).0 in
+    let k = zones_known s (u16 s (zones_at s)) (first_zone s) (omega arith) (both _ _ z.1).0 in
     record {
       options = options_known s h.0;
       few_obstacles = omega (arith, length_obstacles s, n.to);

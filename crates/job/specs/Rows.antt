@@ -110,14 +110,14 @@ row_room_lem : (s : List ℕ) (z : Zone) (row : Row) (zs : List Zone) → IsRow 
 unfolding row_room work_of
 row_room_lem s z row zs r = rw (left_in s z row r) (one_room (is_left_in z) z _ (work_of zs) (rw (r.len, r.count)))
 
-rows-room :
+rows_room_lem :
     (s : List ℕ) (n : ℕ) (z : Place) (rest : List ℕ) → faults (zone_fault s) (zone_next s) n z ≡ 0
     → rows_room n (flat (zone_row s) (zone_end s) n z.at ++ rest) ≡ zones_room (work_of (each (zone s) (zone_end s) n z.at))
 unfolding faults rows_room flat each zone_row zone_next row_of
-rows-room s zero z rest e = unfold work_of zones_room in refl
-rows-room s (suc n) z rest e =
+rows_room_lem s zero z rest e = unfold work_of zones_room in refl
+rows_room_lem s (suc n) z rest e =
     let p = both (zone_fault s z) (faults (zone_fault s) (zone_next s) n (zone_next s z)) e in
-    ap (λ (x : ℕ). row_room (row_at s z.at) + x) (rows-room s n (zone_next s z) rest p.1)
+    ap (λ (x : ℕ). row_room (row_at s z.at) + x) (rows_room_lem s n (zone_next s z) rest p.1)
     ∙ row_room_lem s (zone s z.at) (row_at s z.at) (each (zone s) (zone_end s) n (zone_end s z.at)) (is_row s z p.0)
 
 module _ (s : List ℕ) (ok : items_fault s ≡ 0) (rows : List ℕ) where
@@ -135,4 +135,4 @@ module _ (s : List ℕ) (ok : items_fault s ≡ 0) (rows : List ℕ) where
 
   pub room_is : 15 + rows_room (u16 s (zones_at s)) (written (rows_of s) rows) ≡ sheet_room (job_of s)
   unfolding written rows_of zones sheet_room job_of
-  room_is = ap (λ (x : ℕ). 15 + x) (rows-room s (u16 s (zones_at s)) (first_zone s) (drop (length (rows_of s)) rows) no_fault)
+  room_is = ap (λ (x : ℕ). 15 + x) (rows_room_lem s (u16 s (zones_at s)) (first_zone s) (drop (length (rows_of s)) rows) no_fault)

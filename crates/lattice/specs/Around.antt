@@ -10,10 +10,10 @@ use Rattle.glyphs.specs.declared.rect.Point.{Point}
 use Rattle.glyphs.specs.declared.rect.Rectangle.{Rectangle}
 use Rattle.glyphs.specs.Bounds.{ring_bounds}
 use Rattle.glyphs.specs.Rect.{rects_from, rectangles, obstacles_near}
-use Rattle.regions.specs.Ring.{Piece, outer, piece_of, part, first-ring}
+use Rattle.regions.specs.Ring.{Piece, outer, piece_of, part, first_ring}
 use Rattle.lattice.specs.Context.{inset, spacing}
 use Rattle.lattice.specs.Lattice.{no_cells, at, cells_within, lattice_valid_cells, take_cells, sort_by_anchor}
-use Rattle.lattice.specs.Spread.{with_spacing, field_spacing, field_take, field_pack, pack_is, trial-is}
+use Rattle.lattice.specs.Spread.{with_spacing, field_spacing, field_take, field_pack, pack_is, trial_is}
 use Rattle.lattice.specs.Tally.{cells_of, counts_of}
 use Rattle.lattice.specs.Uniform.{available, pack_lattice, anchor_of, pack_around}
 use Rattle.lattice.specs.declared.context.PackCtx.{PackCtx}
@@ -32,19 +32,19 @@ module _ (piece : Piece) (c : Float) (near : List Rectangle) (n : ℕ) (field : 
   unfolding field_pack
   pack_strict h = rw (← free_is, h)
 
-  pub pack-short :
+  pub pack_short :
       (not (nat_le n t.free) && strict) ≡ false → nat_le n (t.free + cond (nat_le n t.free) 0 t.blocked) ≡ false
       → field_pack piece c near n field strict ≡ field_take piece c near n field (nat_le n t.free)
   unfolding field_pack available
-  pack-short h k =
+  pack_short h k =
       rw (← free_is, ← blocked_is, h, lt-ltb (t.free + cond (nat_le n t.free) 0 t.blocked) n (leb-false n (t.free + cond (nat_le n t.free) 0 t.blocked) k))
 
-  pub pack-wide :
+  pub pack_wide :
       (not (nat_le n t.free) && strict) ≡ false → nat_le n (t.free + cond (nat_le n t.free) 0 t.blocked) ≡ true
       → field_pack piece c near n field strict
       ≡ field_take piece c near n (with_spacing field (field_spacing piece c near n field (nat_le n t.free))) (nat_le n t.free)
   unfolding field_pack available
-  pack-wide h k =
+  pack_wide h k =
       rw (← free_is, ← blocked_is, h, le-ltb (t.free + cond (nat_le n t.free) 0 t.blocked) n (leb-true n (t.free + cond (nat_le n t.free) 0 t.blocked) k))
 
 -- ---- a list of obstacles
@@ -60,7 +60,7 @@ length_rectangles l = length_rects l 0 (length l / 4)
 -- ---- a piece
 pub outer_is : (sizes : List ℕ) (coords : List Float) (ring : List Float) → 0 < length sizes → ring ≡ part coords 0 (lib.ListN.get_or sizes 0 0) → outer (piece_of sizes coords) ≡ ring
 unfolding outer
-outer_is sizes coords ring h e = rw (first-ring sizes coords h, e)
+outer_is sizes coords ring h e = rw (first_ring sizes coords h, e)
 
 -- the lattice about a deepest point, given the obstacles near its piece
 abbrev pub field_at : Point → Piece → PackCtx → List Rectangle → Bool → Float → Float → Float → Float → Field
@@ -91,10 +91,10 @@ module _ (poi : Point) (piece : Piece) (n : ℕ) (ctx : PackCtx) (obstacles : Li
       pub around_is : ctx.mode.spread ≡ true → field_pack piece least near n field ctx.mode.strict_obstacles ≡ pack_around poi piece n ctx obstacles rectangular
       around_is e = rw (ef, el, en) (sym (around ∙ pack_is piece n ctx near_of field_of box refl e))
 
-      pub probe-is :
+      pub probe_is :
           ctx.mode.spread ≡ false → ctx.mode.strict_obstacles ≡ true
           → min n (length (cells_of field piece least near (at n)).free) ≡ length (pack_around poi piece n ctx obstacles rectangular)
-      probe-is e f = rw (ef, el, en) (sym (ap length around ∙ trial-is piece n ctx near_of field_of box refl e f))
+      probe_is e f = rw (ef, el, en) (sym (ap length around ∙ trial_is piece n ctx near_of field_of box refl e f))
 
   -- ---- without bounds no spots
   take_none : (k : ℕ) (anchor : Point) (honoring b : Bool) → cond (honoring || b) (take n (sort_by_anchor anchor [])) (sort_by_anchor anchor [] ++ take k (sort_by_anchor anchor [])) ≡ []

@@ -13,10 +13,10 @@ ends_step : {rings : ℕ} {ends : List ℕ} → Ends rings ends → (k : ℕ) �
 ends_step {rings} {ends} p k h = rw (add-one, slice-cons k rings ends 0 h (omega (arith, p.few, p.room)))
 
 -- the next end is no less than the one before, and within the crossings
-pub end-next :
+pub end_next :
     {rings : ℕ} {ends : List ℕ} → Ends rings ends → (from k : ℕ) → k < rings → Ascend from (slice k rings ends)
     → (from ≤ slice_index ends k) × (slice_index ends k ≤ 32) × Ascend (slice_index ends k) (slice (k + 1) rings ends)
-end-next {rings} {ends} p from k h a =
+end_next {rings} {ends} p from k h a =
     let b : Ascend from (slice_index ends k ∷ slice (k + 1) rings ends) = rw (ends_step p k h) at a in
     (b.0, ascend_le (slice_index ends k) (slice (k + 1) rings ends) b.1, b.1)
 
@@ -25,10 +25,10 @@ module _ (x : Float) (rings : ℕ) (crossings : List Float) (ends : List ℕ) wh
   unfolding inside_level
   outside_outer e = rw e
 
-  pub inside-outer :
+  pub inside_outer :
       odd x (take (slice_index ends 0) crossings) ≡ true → inside_level x rings crossings ends ≡ not (odd_any x crossings (slice_index ends 0) (slice 1 rings ends))
   unfolding inside_level
-  inside-outer e = rw e
+  inside_outer e = rw e
 
   -- a turn of the loop over the holes
   module _ (p : Ends rings ends) (from k : ℕ) (h : k < rings) where
@@ -36,11 +36,11 @@ module _ (x : Float) (rings : ℕ) (crossings : List Float) (ends : List ℕ) wh
     unfolding odd_any
     inside_hole e = rw (ends_step p k h, e)
 
-    pub outside-hole :
+    pub outside_hole :
         odd x (take (slice_index ends k - from) (drop from crossings)) ≡ false
         → odd_any x crossings from (slice k rings ends) ≡ odd_any x crossings (slice_index ends k) (slice (k + 1) rings ends)
     unfolding odd_any
-    outside-hole e = rw (ends_step p k h, e)
+    outside_hole e = rw (ends_step p k h, e)
 
   pub no_hole : (from k : ℕ) → k ≡ rings → odd_any x crossings from (slice k rings ends) ≡ false
   unfolding odd_any

@@ -96,11 +96,11 @@ far_clear x y c rect e =
     let sum = sum_least (dx *ᶠ dx) (dy *ᶠ dy) (beyond_square _ _ _) (beyond_square _ _ _) (mul-fits binary64 dx dx) (mul-fits binary64 dy dy) in
     rw rect_root (is_true _ (high_square_lem c (dx *ᶠ dx +ᶠ dy *ᶠ dy) (le_trans (high_square c) (dy *ᶠ dy) (dx *ᶠ dx +ᶠ dy *ᶠ dy) high sum)))
 
-pub abreast-clear :
+pub abreast_clear :
     (x y c : Float) (rects : List Rectangle) → clear_of_obstacles x y (filter (abreast y (high_square c)) rects) c ≡ clear_of_obstacles x y rects c
 unfolding filter clear_of_obstacles
-abreast-clear x y c [] = refl
-abreast-clear x y c (rect ∷ rects) = go (abreast y (high_square c) rect) refl (abreast-clear x y c rects)
+abreast_clear x y c [] = refl
+abreast_clear x y c (rect ∷ rects) = go (abreast y (high_square c) rect) refl (abreast_clear x y c rects)
   where
     kept : List Rectangle
     kept = filter (abreast y (high_square c)) rects

@@ -8,7 +8,7 @@ use Rattle.std.proofs.Math.Nat.{add-sub_cancel_left}
 use Rattle.std.proofs.Math.Seq.{slice, take-suc-set, take-append_seam}
 use Rattle.float.specs.Ops.{◌+ᶠ◌, ◌-ᶠ◌, ◌*ᶠ◌, ◌/ᶠ◌, ◌<ᶠ◌, ◌>ᶠ◌, ε}
 use Rattle.glyphs.specs.Points.{Ring, vertices, x_at, y_at}
-use Rattle.regions.specs.Ring.{prev, outer, holes, part, rings_from, piece_of, rings-step, rings_end, first-ring}
+use Rattle.regions.specs.Ring.{prev, outer, holes, part, rings_from, piece_of, rings_step, rings_end, first_ring}
 use Rattle.regions.specs.Inside.{intersect, flip, inside_after, point_in_polygon}
 use Rattle.regions.specs.Clearance.{in_any, within}
 
@@ -137,11 +137,11 @@ module _ (y xi yi xj yj : Float) (l : List Float) (c : ℕ) where
   put_one v e h g = rw (add-one, e, take-suc-set l c v h, g)
 
 -- a turn of the loop over a ring's edges
-pub ring-next :
+pub ring_next :
     (y : Float) (v : Ring) (n i : ℕ) (pre l m : List Float) → l ≡ pre ++ crossings_after y v n i → m ≡ l ++ edge_crossing y v i (prev n i)
     → m ≡ pre ++ crossings_after y v n (i + 1)
 unfolding crossings_after
-ring-next y v n i pre l m e g =
+ring_next y v n i pre l m e g =
     g ∙ rw (add-one i, e) (append_assoc pre (crossings_after y v n i) (edge_crossing y v i (prev n i)))
 
 pub ring_start : (y : Float) (v : Ring) (n : ℕ) (pre : List Float) → pre ≡ pre ++ crossings_after y v n 0
@@ -161,12 +161,12 @@ ring_whole y v h = rw (le-ltb (vertices v) 3 h)
 middle : (pre cs rest : List Float) (from : ℕ) → length pre ≡ from → take (from + length cs - from) (drop from (pre ++ (cs ++ rest))) ≡ cs
 middle pre cs rest from e = rw (add-sub_cancel_left, drop_at pre (cs ++ rest) from e) (take-append_seam cs rest)
 
-holes-odd :
+holes_odd :
     (x y : Float) (rings : List Ring) (pre rest : List Float) (from : ℕ) → length pre ≡ from
     → odd_any x (pre ++ (crossings_of_all y rings ++ rest)) from (ends_of y from rings) ≡ in_any x y rings
 unfolding odd_any ends_of in_any crossings_of_all
-holes-odd x y [] pre rest from e = refl
-holes-odd x y (ring ∷ rings) pre rest from e =
+holes_odd x y [] pre rest from e = refl
+holes_odd x y (ring ∷ rings) pre rest from e =
     let cs = crossings_of y ring in
     let all = crossings_of_all y rings in
     let n : length (pre ++ cs) ≡ from + length cs = simp length-append (omega arith) in
@@ -174,15 +174,15 @@ holes-odd x y (ring ∷ rings) pre rest from e =
     let first : odd x (take (from + length cs - from) (drop from (pre ++ ((cs ++ all) ++ rest)))) ≡ point_in_polygon x y ring =
     rw (assoc, middle pre cs (all ++ rest) from e) (ring_odd x y ring) in
     let further : odd_any x (pre ++ ((cs ++ all) ++ rest)) (from + length cs) (ends_of y (from + length cs) rings) ≡ in_any x y rings =
-    rw (assoc, ← append_assoc pre cs (all ++ rest)) (holes-odd x y rings (pre ++ cs) rest (from + length cs) n) in
+    rw (assoc, ← append_assoc pre cs (all ++ rest)) (holes_odd x y rings (pre ++ cs) rest (from + length cs) n) in
     rw (first, further)
 
-piece-odd :
+piece_odd :
     (x y : Float) (ring : Ring) (rings : List Ring) (rest : List Float) (rings-are : ℕ) (ends : List ℕ) → 0 < rings-are
     → take rings-are ends ≡ ends_of y 0 (ring ∷ rings)
     → inside_level x rings-are (crossings_of_all y (ring ∷ rings) ++ rest) ends ≡ within x y (ring ∷ rings)
 unfolding inside_level within outer holes ends_of crossings_of_all
-piece-odd x y ring rings rest n ends h e =
+piece_odd x y ring rings rest n ends h e =
     let cs = crossings_of y ring in
     let all = crossings_of_all y rings in
     let end : slice_index_or ends 0 0 ≡ length cs = sym (get_or-take n ends 0 0 h) ∙ ap (λ (l : List ℕ). slice_index l 0) e ∙ zero-add (length cs) in
@@ -190,7 +190,7 @@ piece-odd x y ring rings rest n ends h e =
     let first : odd x (take (length cs) ((cs ++ all) ++ rest)) ≡ point_in_polygon x y ring =
     rw (append_assoc cs all rest, take-append_seam cs (all ++ rest)) (ring_odd x y ring) in
     let further : odd_any x ((cs ++ all) ++ rest) (length cs) (ends_of y (length cs) rings) ≡ in_any x y rings =
-    rw (append_assoc cs all rest) (holes-odd x y rings cs rest (length cs) refl) in
+    rw (append_assoc cs all rest) (holes_odd x y rings cs rest (length cs) refl) in
     rw (end, later, first, further)
 
 ends_ascend : (y : Float) (rings : List Ring) (from : ℕ) → from + length (crossings_of_all y rings) ≤ 32 → Ascend from (ends_of y from rings)
@@ -215,11 +215,11 @@ crossed y sizes coords crossings ends c h few room le e f =
   where
     inside : (x : Float) → inside_level x (length sizes) crossings ends ≡ within x y (piece_of sizes coords)
     inside x =
-        let p = first-ring sizes coords h in
+        let p = first_ring sizes coords h in
         let e' = ap (crossings_of_all y) (sym p) ∙ e in
         let f' = sym f ∙ ap (ends_of y 0) p in
         ap (λ (l : List Float). inside_level x (length sizes) l ends) (sym (take-append-drop c crossings) ∙ ap (λ (l : List Float). l ++ drop c crossings) (sym e'))
-        ∙ piece-odd x y (part coords 0 (slice_index sizes 0)) (rings_from (slice_index sizes 0) (drop 1 sizes) coords) (drop c crossings) (length sizes) ends h f'
+        ∙ piece_odd x y (part coords 0 (slice_index sizes 0)) (rings_from (slice_index sizes 0) (drop 1 sizes) coords) (drop c crossings) (length sizes) ends h f'
         ∙ ap (within x y) (sym p)
 
 -- how many there are then
@@ -230,13 +230,13 @@ counted l m cs c r e h g =
 
 -- a turn of the loop over the rings
 module _ (y : Float) (sizes : List ℕ) (coords : List Float) (at k : ℕ) (h : k < length sizes) where
-  pub rings-next :
+  pub rings_next :
       (all before after : List Float) → all ≡ before ++ crossings_of_all y (rings_from at (drop k sizes) coords)
       → after ≡ before ++ crossings_of y (part coords at (slice_index sizes k))
       → all ≡ after ++ crossings_of_all y (rings_from (at + slice_index sizes k) (drop (k + 1) sizes) coords)
   unfolding crossings_of_all
-  rings-next all before after e f =
-      e ∙ rw (rings-step at sizes coords k h, f) (sym (append_assoc before _ _))
+  rings_next all before after e f =
+      e ∙ rw (rings_step at sizes coords k h, f) (sym (append_assoc before _ _))
 
   pub ends_next :
       (all ends : List ℕ) (c e : ℕ) → k < length ends → all ≡ take k ends ++ ends_of y c (rings_from at (drop k sizes) coords)
@@ -244,7 +244,7 @@ module _ (y : Float) (sizes : List ℕ) (coords : List Float) (at k : ℕ) (h : 
       → all ≡ take (k + 1) (slice_set ends k e) ++ ends_of y e (rings_from (at + slice_index sizes k) (drop (k + 1) sizes) coords)
   unfolding ends_of
   ends_next all ends c e l f g =
-      f ∙ rw (rings-step at sizes coords k h, ← g) (rw (add-one, take-suc-set ends k e l) (sym (append_assoc (take k ends) (e ∷ []) _)))
+      f ∙ rw (rings_step at sizes coords k h, ← g) (rw (add-one, take-suc-set ends k e l) (sym (append_assoc (take k ends) (e ∷ []) _)))
 
 pub rings_done : (y : Float) (sizes : List ℕ) (coords : List Float) (at k : ℕ) (l : List Float) → length sizes ≤ k → l ++ crossings_of_all y (rings_from at (drop k sizes) coords) ≡ l
 unfolding crossings_of_all

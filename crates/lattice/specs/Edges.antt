@@ -22,11 +22,11 @@ use Rattle.float.specs.Laws.Square.{Square, times_self, plus}
 use Rattle.float.specs.Laws.Monotone.{root_of_mono}
 use Rattle.glyphs.specs.declared.rect.Rectangle.{Rectangle}
 use Rattle.glyphs.specs.Points.{Ring, vertices, x_at, y_at}
-use Rattle.glyphs.specs.Rect.{rect_at, rects_from, rects-step, rects_end}
+use Rattle.glyphs.specs.Rect.{rect_at, rects_from, rects_step, rects_end}
 use Rattle.regions.specs.Ring.{Piece, next}
 use Rattle.regions.specs.Clearance.{edge_square, dist_at, closer, best_after, best_of_ring, min_dist_to_rings}
 use Rattle.regions.specs.Margin.{low_square, high_square, high_square_lem}
-use Rattle.lattice.specs.Near.{put_rect, rects-put}
+use Rattle.lattice.specs.Near.{put_rect, rects_put}
 use Rattle.lattice.specs.Far.{Sure, Beyond, far_edge}
 
 -- the edge from (ax, ay) to (bx, by)
@@ -95,7 +95,7 @@ far_added y reach e m l b c x s = rw (far_edge c x y e.ax e.ay e.bx e.by reach s
 pub near_added : (y reach : Float) (e : Edge) (m : ℕ) (l : List Float) → m * 4 + 3 < length l → Added y reach e m l (m + 1) (put_edge l m e)
 unfolding keeps_edges edges_in edges_from
 near_added y reach e m l h c x s =
-    rw (rects-put l m (to_four e) h, map_append from_four (rects_from l 0 m) (to_four e ∷ [])) (all_last (keeps x y c) (map from_four (rects_from l 0 m)) e)
+    rw (rects_put l m (to_four e) h, map_append from_four (rects_from l 0 m) (to_four e ∷ [])) (all_last (keeps x y c) (map from_four (rects_from l 0 m)) e)
 
 -- ---- a ring's edges in turn
 module _ (y reach : Float) (ring : Ring) where
@@ -124,10 +124,10 @@ module _ (y reach : Float) (ring : Ring) where
   unfolding keeps_ring
   ring_short m l h c x s = rw (lt-ltb (vertices ring) 2 h) (sym (and-true (keeps_edges x y c (edges_in l m))))
 
-  pub ring-added :
+  pub ring_added :
       (n i m : ℕ) (l : List Float) (m' : ℕ) (l' : List Float) → n ≡ vertices ring → 2 ≤ n → i ≡ n → AddedAfter n i m l m' l' → AddedRing y reach ring m l m' l'
   unfolding keeps_ring
-  ring-added n i m l m' l' e h f p c x s = rw (← e, le-ltb n 2 h) (p c x s ∙ rw f)
+  ring_added n i m l m' l' e h f p c x s = rw (← e, le-ltb n 2 h) (p c x s ∙ rw f)
 
 -- ---- the least distance is c at least where every distance is
 abbrev keeps_rings : Float → Float → Float → List Ring → Bool
@@ -240,7 +240,7 @@ module _ (x y c : Float) (l : List Float) (k m : ℕ) where
 
   edges_step : k < m → keeps_from k ≡ keeps x y c edge_of && keeps_from (k + 1)
   unfolding keeps_edges edges_from all rect_at
-  edges_step h = rw (rects-step l k m h)
+  edges_step h = rw (rects_step l k m h)
 
   pub edges_next : (b : Bool) → k < m → b ≡ keeps x y c edge_of → b ≡ true → keeps_from k ≡ keeps_from (k + 1)
   edges_next b h e f = edges_step h ∙ rw (← e, f)

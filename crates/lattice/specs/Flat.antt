@@ -131,10 +131,10 @@ moved_next l (suc j) b h g k =
     rw (e2, e3, from, to) (set_at (take (j + 2) l) v rest w (j + 2) n)
 
 -- a point put where there is room
-pub put-moved :
+pub put_moved :
     (l : List Float) (a b : ℕ) (x y : Float) → a ≤ b → b + 2 ≤ length l
     → slice_set (slice_set (moved l a b) a x) (a + 1) y ≡ take a l ++ (x ∷ y ∷ (slice_range l a b ++ drop (b + 2) l))
-put-moved l a b x y h g =
+put_moved l a b x y h g =
     let rest = slice_range l a b ++ drop (b + 2) l in
     let u = get_or l a nan in
     let v = get_or l (suc a) nan in
@@ -150,12 +150,12 @@ put-moved l a b x y h g =
     ∙ append_assoc (take a l) (x ∷ []) (y ∷ rest))
 
 -- and then the slice is written with p among its first m points, behind k of them, and e stay
-pub put-among :
+pub put_among :
     (l : List Float) (m k e : ℕ) (p : Point) → k ≤ e → e ≤ m → m * 2 ≤ length l → e * 2 + 2 ≤ length l
     → slice_set (slice_set (moved l (k * 2) (e * 2)) (k * 2) p.x) (k * 2 + 1) p.y
     ≡ written (flat (take k (points m l) ++ p ∷ slice_range (points m l) k e)) l
 unfolding written flat
-put-among l m k e p h g f i =
+put_among l m k e p h g f i =
     let ps = take k (points m l) in
     let qs = take (e - k) (drop k (points m l)) in
     let a : flat ps ≡ take (k * 2) l = rw (take_points k m l (omega arith)) (flat_points k l (omega arith)) in
@@ -165,7 +165,7 @@ put-among l m k e p h g f i =
     (flat_points (e - k) (drop (k * 2) l) (simp length-drop (omega arith))) in
     let n : length (flat (ps ++ p ∷ qs)) ≡ e * 2 + 2 =
     length_flat (ps ++ p ∷ qs) ∙ simp (length-append, length-take, length-drop, length_points m l f) (omega arith) in
-    put-moved l (k * 2) (e * 2) p.x p.y (omega arith) i
+    put_moved l (k * 2) (e * 2) p.x p.y (omega arith) i
     ∙ rw (n, flat_append ps (p ∷ qs), a, b) (sym (append_assoc (take (k * 2) l) (p.x ∷ p.y ∷ take (e * 2 - k * 2) (drop (k * 2) l)) (drop (e * 2 + 2) l)))
 
 -- ---- an element behind k others, of which all stay but those past cap

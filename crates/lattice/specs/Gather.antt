@@ -16,7 +16,7 @@ use Rattle.regions.specs.Clearance.{signed_clearance}
 use Rattle.lattice.specs.Escape.{point}
 use Rattle.lattice.specs.Keys.{linear_by}
 use Rattle.lattice.specs.Lattice.{HexCells, no_cells, never, judge, by_anchor, sort_by_anchor, hex_enum_cap, row_height, all_cells, cells_within}
-use Rattle.lattice.specs.Rows.{row_of, width, cell_x, cells_from, visit, first_row, last_row, no_cells_lem, cells-step, cells_end, rows_step, last_row_lem, no_cells_left, no_rows, visited}
+use Rattle.lattice.specs.Rows.{row_of, width, cell_x, cells_from, visit, first_row, last_row, no_cells_lem, cells_step, cells_end, rows_step, last_row_lem, no_cells_left, no_rows, visited}
 use Rattle.lattice.specs.Tally.{cells_of}
 use Rattle.lattice.specs.declared.rows.Field.{Field}
 use Rattle.lattice.specs.declared.rows.Row.{Row}
@@ -81,29 +81,29 @@ module _ (piece : Piece) (min-clearance : Float) (near : List Rectangle) (anchor
       (signed_clearance p.x p.y piece ≥ᶠ min-clearance) (clear_of_obstacles p.x p.y near min-clearance)
 
   -- ---- they fit, and grow
-  insert-fit :
+  insert_fit :
       (n : ℕ) (p : Point) (l : List Point) → length l ≤ n → Ascending (by_anchor anchor) l
       → let r = take n (insert_behind (by_anchor anchor) p l) in
       (length r ≤ n) × Ascending (by_anchor anchor) r × (length l ≤ length r)
-  insert-fit n p l h a =
+  insert_fit n p l h a =
       let e : length (take n (insert_behind (by_anchor anchor) p l)) ≡ min n (suc (length l)) = length-take n (insert_behind (by_anchor anchor) p l) ∙ ap (min n) (length_behind (by_anchor anchor) p l) in
       (omega arith, take_ascending (by_anchor anchor) n (insert_behind (by_anchor anchor) p l) (behind_ascending (by_anchor anchor) (linear_by anchor) p l a), omega arith)
 
-  cell-fits :
+  cell_fits :
       (a b : Bool) (cells : HexCells) (p : Point) → Fit anchor nf nb cells
       → let r = cond a (cond b (with_free cells p) (with_blocked cells p)) cells in
       Fit anchor nf nb r × Grown cells r
-  cell-fits true true cells p h =
-      let i = insert-fit nf p cells.free h.free_fits h.free_order in
+  cell_fits true true cells p h =
+      let i = insert_fit nf p cells.free h.free_fits h.free_order in
       (record { free_fits = i.0; blocked_fits = h.blocked_fits; free_order = i.1; blocked_order = h.blocked_order }, (i.2, omega arith))
-  cell-fits true false cells p h =
-      let i = insert-fit nb p cells.blocked h.blocked_fits h.blocked_order in
+  cell_fits true false cells p h =
+      let i = insert_fit nb p cells.blocked h.blocked_fits h.blocked_order in
       (record { free_fits = h.free_fits; blocked_fits = i.0; free_order = h.free_order; blocked_order = i.1 }, (omega arith, i.2))
-  cell-fits false b cells p h = (h, (omega arith, omega arith))
+  cell_fits false b cells p h = (h, (omega arith, omega arith))
 
   pub gathered_fit : (cells : HexCells) (p : Point) → Fit anchor nf nb cells → Fit anchor nf nb (gather_cell cells p) × Grown cells (gather_cell cells p)
   unfolding gather_cell
-  gathered_fit cells p h = cell-fits (signed_clearance p.x p.y piece ≥ᶠ min-clearance) (clear_of_obstacles p.x p.y near min-clearance) cells p h
+  gathered_fit cells p h = cell_fits (signed_clearance p.x p.y piece ≥ᶠ min-clearance) (clear_of_obstacles p.x p.y near min-clearance) cells p h
 
   pub gather_fit : (cells : HexCells) (ps : List Point) → Fit anchor nf nb cells → Fit anchor nf nb (gather cells ps) × Grown cells (gather cells ps)
   gather_fit cells [] h = (h, (omega arith, omega arith))
@@ -114,7 +114,7 @@ module _ (piece : Piece) (min-clearance : Float) (near : List Rectangle) (anchor
 
   -- ---- turns of the loops
   pub row_turn : (cells : HexCells) (row : Row) (s : Float) (k m : ℕ) → k < m → gather cells (cells_from row s k (m - k)) ≡ gather (gather_cell cells (point (cell_x row s k) row.y)) (cells_from row s (k + 1) (m - (k + 1)))
-  row_turn cells row s k m h = rw (cells-step row s k m h)
+  row_turn cells row s k m h = rw (cells_step row s k m h)
 
   pub row_done : (cells : HexCells) (row : Row) (s : Float) (k m : ℕ) → m ≤ k → gather cells (cells_from row s k (m - k)) ≡ cells
   row_done cells row s k m h = rw (cells_end row s k m h)
@@ -145,12 +145,12 @@ module _ (piece : Piece) (min-clearance : Float) (near : List Rectangle) (anchor
   pub kept_none : kept anchor nf nb no_cells ≡ no_cells
   kept_none = rw (take_none nf, take_none nb)
 
-  pub cells-gathered :
+  pub cells_gathered :
       (field : Field) → field.lattice.spacing ≤ᶠ 0ᶠ ≡ false → is_finite field.lattice.spacing ≡ true
       → let row-h = row_height field.lattice in
       kept anchor nf nb (cells_of field piece min-clearance near never) ≡ gather no_cells (visit hex_enum_cap field row-h (first_row field row-h) (last_row field row-h))
   unfolding cells_within
-  cells-gathered field e f =
+  cells_gathered field e f =
       rw (e, f)
       (kept_judged no_cells (take hex_enum_cap (all_cells field.lattice field.anchor field.min_x field.max_x field.min_y field.max_y))
       ∙ ap (λ (cells : HexCells). gather cells (take hex_enum_cap (all_cells field.lattice field.anchor field.min_x field.max_x field.min_y field.max_y))) kept_none

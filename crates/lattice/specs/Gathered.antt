@@ -16,7 +16,7 @@ use Rattle.regions.specs.Ring.{Piece}
 use Rattle.regions.specs.Clearance.{signed_clearance}
 use Rattle.lattice.specs.Flat.{points, length_points}
 use Rattle.lattice.specs.Gather.{Fit, Grown, gather_cell, gathered_fit}
-use Rattle.lattice.specs.Held.{held_in, Holds, Ready, free_le, holds_start, holds-blocked, turn}
+use Rattle.lattice.specs.Held.{held_in, Holds, Ready, free_le, holds_start, holds_blocked, turn}
 use Rattle.lattice.specs.Lattice.{HexCells, by_anchor}
 use Rattle.lattice.specs.Merge.{inserted_none}
 use Rattle.lattice.specs.Waiting.{Line, Onward, lined, length_lined, lined_order}
@@ -74,10 +74,10 @@ module _ (anchor : Point) (nf nb : ℕ) (t : Gathered) (f b g : List Float) (w :
   start = holds_start anchor nf nb (kept_of t) f b w.ready
 
   -- ---- after it, when those that wait are merged
-  pub holds-merged :
+  pub holds_merged :
       64 ≤ length g → (m : ℕ) (f' : List Float) → m ≡ min (t.free.kept + t.free.waiting) nf → f' ≡ written (flat (lined anchor nf t.free f g)) f
       → Holds (gathered_in anchor nf t f b g) (record { free = m; blocked = t.blocked }) f' b f b
-  holds-merged room m f' n e =
+  holds_merged room m f' n e =
       let c : m ≡ length (lined anchor nf t.free f g) = n ∙ sym (length_lined anchor nf t.free f g w.line room) in
       let d = blocked_number in
       record { counts = cc; free_is = e; blocked_is = start.blocked_is }
@@ -96,19 +96,19 @@ module _ (anchor : Point) (nf nb : ℕ) (t : Gathered) (f b g : List Float) (w :
 
   -- ---- one cell
   module _ (piece : Piece) (c : Float) (near : List Rectangle) (p : Point) where
-    pub gathers-out :
+    pub gathers_out :
         signed_clearance p.x p.y piece ≥ᶠ c ≡ false
         → Gathers anchor nf nb (gather_cell piece c near anchor nf nb (gathered_in anchor nf t f b g) p) t t f b g f b
     unfolding gather_cell
-    gathers-out e = rw e (record { waits = w; cells_are = refl; holds = start; grown = (omega arith, omega arith) })
+    gathers_out e = rw e (record { waits = w; cells_are = refl; holds = start; grown = (omega arith, omega arith) })
 
-    pub gathers-free :
+    pub gathers_free :
         signed_clearance p.x p.y piece ≥ᶠ c ≡ true → clear_of_obstacles p.x p.y near c ≡ true
         → (r : Free) (f' g' : List Float) → Line anchor nf r f' g'
         → lined anchor nf r f' g' ≡ take nf (insert_behind (by_anchor anchor) p (lined anchor nf t.free f g)) → Onward t.free r f f'
         → Gathers anchor nf nb (gather_cell piece c near anchor nf nb (gathered_in anchor nf t f b g) p) t (record { free = r; blocked = t.blocked }) f' b g' f b
     unfolding gather_cell
-    gathers-free e k r f' g' l q o =
+    gathers_free e k r f' g' l q o =
         let n : length (points r.kept f') ≡ r.kept = length_points r.kept f' (omega (arith, l.kept_le, l.room)) in
         let d : r.kept ≡ length (points r.kept f') = sym n in
         let m = blocked_number in
@@ -128,17 +128,17 @@ module _ (anchor : Point) (nf nb : ℕ) (t : Gathered) (f b g : List Float) (w :
           grown = (omega (arith, kept_number, o.grown), omega arith);
         })
 
-    pub gathers-blocked :
+    pub gathers_blocked :
         signed_clearance p.x p.y piece ≥ᶠ c ≡ true → clear_of_obstacles p.x p.y near c ≡ false
         → (k : ℕ) → k ≡ min (suc t.blocked) nb → (b' : List Float) → b' ≡ written (flat (take nb (insert_behind (by_anchor anchor) p (points t.blocked b)))) b
         → Gathers anchor nf nb (gather_cell piece c near anchor nf nb (gathered_in anchor nf t f b g) p) t (record { free = t.free; blocked = k }) f b' g f b
     unfolding gather_cell
-    gathers-blocked e z k n b' h =
+    gathers_blocked e z k n b' h =
         let cells = held_in (kept_of t) f b in
         let fit = gathered_fit piece c near anchor nf nb cells p w.ready.fit in
         let held =
         turn anchor nf nb (kept_of t) f b w.ready f b start (gather_cell piece c near anchor nf nb cells p) fit _ _ _
-        (holds-blocked anchor nf nb (kept_of t) f b w.ready piece c near p e z k n b' h) in
+        (holds_blocked anchor nf nb (kept_of t) f b w.ready piece c near p e z k n b' h) in
         let q : points k b' ≡ take nb (insert_behind (by_anchor anchor) p (points t.blocked b)) = ap (λ (x : HexCells). x.blocked) held.0 ∙ rw (e, z) in
         rw (e, z) (record {
           waits = record { ready = held.1; line = w.line };

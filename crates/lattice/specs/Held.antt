@@ -128,12 +128,12 @@ module _ (anchor : Point) (nf nb : ℕ) (t : Counts) (f b : List Float) (r : Rea
       omega arith
 
   module _ (piece : Piece) (c : Float) (near : List Rectangle) (p : Point) where
-    pub holds-blocked :
+    pub holds_blocked :
         signed_clearance p.x p.y piece ≥ᶠ c ≡ true → clear_of_obstacles p.x p.y near c ≡ false
         → (k : ℕ) → k ≡ min (suc t.blocked) nb → (b' : List Float) → b' ≡ written (flat (take nb (insert_behind (by_anchor anchor) p (points t.blocked b)))) b
         → Holds (gather_cell piece c near anchor nf nb (held_in t f b) p) (record { free = t.free; blocked = k }) f b' f b
     unfolding gather_cell
-    holds-blocked e g k n b' h =
+    holds_blocked e g k n b' h =
         let i : k ≡ length (take nb (insert_behind (by_anchor anchor) p (points t.blocked b))) = kept_number nb p (points t.blocked b) t.blocked k blocked_number n in
         let j = free_number in
         rw (e, g) (record { counts = cc; free_is = same_free; blocked_is = h })

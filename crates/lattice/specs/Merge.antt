@@ -99,10 +99,10 @@ module _ {A : Type 0} (cmp : A → A → Ordering) where
     lt_of Ordering.gt e = let w : false ≡ true = e in cc
 
     -- the last of what comes is before the last of what is there: that one stays the last
-    pub last-old :
+    pub last_old :
         (xs ps : List A) (x y : A) → Ascending cmp (ps ++ y ∷ []) → is_lt (cmp y x) ≡ true
         → inserted (xs ++ x ∷ []) (ps ++ y ∷ []) ≡ inserted xs (ps ++ y ∷ []) ++ x ∷ []
-    last-old xs ps x y a e = inserted_front x xs (ps ++ y ∷ []) (all_before x y ps a (lt_of (cmp y x) e))
+    last_old xs ps x y a e = inserted_front x xs (ps ++ y ∷ []) (all_before x y ps a (lt_of (cmp y x) e))
 
     earlier : (y x z : A) (o : Ordering) → cmp y z ≡ o → NotGt (cmp z x) → is_lt (cmp y x) ≡ false → is_lt o ≡ false
     earlier y x z Ordering.lt e n f = let w : is_lt (cmp y x) ≡ true = later (cmp z x) refl n in cc
@@ -131,10 +131,10 @@ module _ {A : Type 0} (cmp : A → A → Ordering) where
     goes_last xs ps y a b = inserted_next xs ps y ∙ behind_last y (inserted xs ps) (every_inserted (NotBefore y) xs ps b (front_after y ps a))
 
     -- and where it is not, or there is none, it becomes the last itself
-    pub last-new :
+    pub last_new :
         (xs ps : List A) (x y : A) → Ascending cmp (xs ++ x ∷ []) → Ascending cmp (ps ++ y ∷ []) → is_lt (cmp y x) ≡ false
         → inserted (xs ++ x ∷ []) (ps ++ y ∷ []) ≡ inserted (xs ++ x ∷ []) ps ++ y ∷ []
-    last-new xs ps x y a b e = goes_last (xs ++ x ∷ []) ps y b (none_after x y xs a e)
+    last_new xs ps x y a b e = goes_last (xs ++ x ∷ []) ps y b (none_after x y xs a e)
 
     pub last_only : (ps : List A) (y : A) → Ascending cmp (ps ++ y ∷ []) → inserted [] (ps ++ y ∷ []) ≡ inserted [] ps ++ y ∷ []
     last_only ps y b = goes_last [] ps y b tt

@@ -7,7 +7,7 @@ use Rattle.laws.specs.Bounded.{insert_behind, lead, at_lead, lead_le}
 use Rattle.laws.specs.Lists.{written}
 use Rattle.glyphs.specs.declared.rect.Point.{Point}
 use Rattle.glyphs.specs.Spots.{flat}
-use Rattle.lattice.specs.Flat.{points, moved, length_points, put-among, written_same, capped, full}
+use Rattle.lattice.specs.Flat.{points, moved, length_points, put_among, written_same, capped, full}
 
 module _ (cmp : Point → Point → Ordering) (l : List Float) (m cap k : ℕ) (p : Point) (h : m ≤ cap) (room : cap * 2 ≤ length l) (at : k ≡ lead cmp p (points m l)) where
   held : length (points m l) ≡ m
@@ -26,7 +26,7 @@ module _ (cmp : Point → Point → Ordering) (l : List Float) (m cap k : ℕ) (
       let n = held in
       let w = within in
       let c : min (length (points m l)) (cap - 1) ≡ e = omega arith in
-      put-among l m k e p (omega arith) (omega arith) (omega arith) (omega arith)
+      put_among l m k e p (omega arith) (omega arith) (omega arith) (omega arith)
       ∙ sym (ap (λ (t : List Point). written (flat t) l) (ap (take cap) behind_k ∙ capped cap k (points m l) p w g ∙ rw c))
 
   pub kept_full : cap ≤ k → l ≡ written (flat (take cap (insert_behind cmp p (points m l)))) l

@@ -10,7 +10,7 @@ use Rattle.float.specs.Whole.{floor, ceil, as_i64}
 use Rattle.glyphs.specs.declared.rect.Point.{Point}
 use Rattle.lattice.specs.Escape.{point}
 use Rattle.lattice.specs.Lattice.{row_height, row_offset, row_cells, all_cells}
-use Rattle.lattice.specs.Span.{rank_of, of_rank, span, through-cast}
+use Rattle.lattice.specs.Span.{rank_of, of_rank, span, through_cast}
 use Rattle.lattice.specs.declared.rows.Field.{Field}
 use Rattle.lattice.specs.declared.rows.Row.{Row}
 
@@ -68,11 +68,11 @@ take_cells row s (suc m) k (suc n) =
     rw e (ap (λ (t : List Point). point (cell_x row s k) row.y ∷ t) (take_cells row s m (k + 1) n))
 
 -- a turn of the loop over a row
-pub cells-step :
+pub cells_step :
     (row : Row) (s : Float) (k n : ℕ) → k < n
     → cells_from row s k (n - k) ≡ point (cell_x row s k) row.y ∷ cells_from row s (k + 1) (n - (k + 1))
 unfolding cells_from
-cells-step row s k n h = let e : n - k ≡ suc (n - (k + 1)) = omega arith in rw e
+cells_step row s k n h = let e : n - k ≡ suc (n - (k + 1)) = omega arith in rw e
 
 pub cells_end : (row : Row) (s : Float) (k n : ℕ) → n ≤ k → cells_from row s k (n - k) ≡ []
 unfolding cells_from
@@ -133,18 +133,18 @@ cells_are row s k (suc n) =
     let e : row.first + k + 1 ≡ row.first + (k + 1) = omega arith in
     rw e (ap (λ (t : List Point). point (cell_x row s k) row.y ∷ t) (cells_are row s (k + 1) n))
 
-pub row-cells :
+pub row_cells_lem :
     (field : Field) (u : ℕ)
     → let row = row_of field (row_height field.lattice) u in
     row_cells field.lattice field.anchor field.min_x field.max_x (of_rank u) ≡ cells_from row field.lattice.spacing 0 (width row)
 unfolding row_cells row_of
-row-cells field u =
+row_cells_lem field u =
     let row = row_of field (row_height field.lattice) u in
     let s = field.lattice.spacing in
     let offset = row_offset field.lattice (of_rank u) in
     let e : row.first + 0 ≡ row.first = omega arith in
     ap (map (λ (i : ℤ). point (row.x +ᶠ of_int binary64 i *ᶠ s) row.y))
-    (through-cast (floor ((field.min_x -ᶠ offset -ᶠ field.anchor.x) /ᶠ s)) (ceil ((field.max_x -ᶠ offset -ᶠ field.anchor.x) /ᶠ s)))
+    (through_cast (floor ((field.min_x -ᶠ offset -ᶠ field.anchor.x) /ᶠ s)) (ceil ((field.max_x -ᶠ offset -ᶠ field.anchor.x) /ᶠ s)))
     ∙ rw e at (cells_are row s 0 (width row))
 
 rows_are :
@@ -153,7 +153,7 @@ rows_are :
     ≡ rows_from field (row_height field.lattice) u n
 unfolding span rows_from
 rows_are field u zero = refl
-rows_are field u (suc n) = rw (row-cells field u, rows_are field (u + 1) n)
+rows_are field u (suc n) = rw (row_cells_lem field u, rows_are field (u + 1) n)
 
 -- the ranks of the first and the last row
 unfoldable pub first_row : Field → Float → ℕ
@@ -162,16 +162,16 @@ first_row field row-h = rank_of (as_i64 (floor ((field.min_y -ᶠ field.anchor.y
 unfoldable pub last_row : Field → Float → ℕ
 last_row field row-h = rank_of (as_i64 (ceil ((field.max_y -ᶠ field.anchor.y) /ᶠ row-h)))
 
-pub all-cells :
+pub all_cells_lem :
     (field : Field)
     → let row-h = row_height field.lattice in
     all_cells field.lattice field.anchor field.min_x field.max_x field.min_y field.max_y
     ≡ rows_from field row-h (first_row field row-h) (suc (last_row field row-h) - first_row field row-h)
 unfolding all_cells first_row last_row
-all-cells field =
+all_cells_lem field =
     let row-h = row_height field.lattice in
     ap (foldr (λ (j : ℤ) (later : List Point). row_cells field.lattice field.anchor field.min_x field.max_x j ++ later) [])
-    (through-cast (floor ((field.min_y -ᶠ field.anchor.y) /ᶠ row-h)) (ceil ((field.max_y -ᶠ field.anchor.y) /ᶠ row-h)))
+    (through_cast (floor ((field.min_y -ᶠ field.anchor.y) /ᶠ row-h)) (ceil ((field.max_y -ᶠ field.anchor.y) /ᶠ row-h)))
     ∙ rows_are field (first_row field row-h) (suc (last_row field row-h) - first_row field row-h)
 
 -- the first `left` of all cells, as the loop over the rows visits them
@@ -181,4 +181,4 @@ pub visited :
     take left (all_cells field.lattice field.anchor field.min_x field.max_x field.min_y field.max_y)
     ≡ visit left field row-h (first_row field row-h) (last_row field row-h)
 unfolding visit
-visited field left = ap (take left) (all-cells field)
+visited field left = ap (take left) (all_cells_lem field)

@@ -17,7 +17,7 @@ use Rattle.lattice.specs.Escape.{point}
 use Rattle.lattice.specs.Flat.{points, point_at, length_points, points_at, take_points, flat_points, flat_take, written_points}
 use Rattle.lattice.specs.Keys.{linear_by}
 use Rattle.lattice.specs.Lattice.{by_anchor}
-use Rattle.lattice.specs.Merge.{inserted, inserted_none, length_inserted, last-old, last-new, last_only}
+use Rattle.lattice.specs.Merge.{inserted, inserted_none, length_inserted, last_old, last_new, last_only}
 
 -- whether p is before the last of the first i cells
 unfoldable pub before_last : Point → Point → List Float → ℕ → Bool
@@ -219,24 +219,24 @@ module _ (anchor : Point) (l₀ run : List Float) (m cap k : ℕ) where
     shorter i l e =
         sym (take-take (i * 2) (suc i * 2) l (omega arith)) ∙ ap (take (i * 2)) e ∙ take-take (i * 2) (suc i * 2) l₀ (omega arith)
 
-    new-last :
+    new_last :
         (i j : ℕ) (l : List Float) → i ≤ m → take (i * 2) l ≡ take (i * 2) l₀ → j < k → before_last anchor (point_at run j) l i ≡ false
         → inserted (by_anchor anchor) (points i l₀) (points j run ++ point_at run j ∷ []) ≡ inserted (by_anchor anchor) (points i l₀) (points j run) ++ point_at run j ∷ []
     unfolding before_last points
-    new-last zero j l h f r e = last_only (by_anchor anchor) (linear_by anchor) (points j run) (point_at run j) (run_ascends j r)
-    new-last (suc i) j l h f r e =
+    new_last zero j l h f r e = last_only (by_anchor anchor) (linear_by anchor) (points j run) (point_at run j) (run_ascends j r)
+    new_last (suc i) j l h f r e =
         let x : point_at l i ≡ point_at l₀ i = same_point i (suc i) l l₀ (omega arith) f in
         let y : is_lt (by_anchor anchor (point_at run j) (point_at l₀ i)) ≡ false = ap (λ (p : Point). is_lt (by_anchor anchor (point_at run j) p)) (sym x) ∙ e in
-        rw (old_next i h) (last-new (by_anchor anchor) (linear_by anchor) (points i l₀) (points j run) (point_at l₀ i) (point_at run j) (old_ascends i h) (run_ascends j r) y)
+        rw (old_next i h) (last_new (by_anchor anchor) (linear_by anchor) (points i l₀) (points j run) (point_at l₀ i) (point_at run j) (old_ascends i h) (run_ascends j r) y)
 
     -- the last old cell is placed
-    pub merge-old :
+    pub merge_old :
         (i j : ℕ) (l : List Float) → Merging i j l → 0 < j → before_last anchor (point_at run (j - 1)) l i ≡ true
         → (0 < i) × Merging (i - 1) j (put_below cap l (i - 1 + j) (point_at l (i - 1)))
     unfolding before_last
-    merge-old i zero l s h e = absurd (omega arith)
-    merge-old zero (suc j) l s h e = let w : false ≡ true = e in let v : ◌≡◌ {A = ℕ} 0 1 = cc in absurd (omega arith)
-    merge-old (suc i) (suc j) l s h e =
+    merge_old i zero l s h e = absurd (omega arith)
+    merge_old zero (suc j) l s h e = let w : false ≡ true = e in let v : ◌≡◌ {A = ℕ} 0 1 = cc in absurd (omega arith)
+    merge_old (suc i) (suc j) l s h e =
         let a : suc i - 1 ≡ i = omega arith in
         let b : suc j - 1 ≡ j = omega arith in
         let c : suc i + suc j ≡ suc (i + suc j) = omega arith in
@@ -247,7 +247,7 @@ module _ (anchor : Point) (l₀ run : List Float) (m cap k : ℕ) where
         let w : take (suc (i + suc j)) whole ≡ inserted (by_anchor anchor) (points i l₀) (points (suc j) run) ++ point_at l i ∷ [] =
         sym (ap (λ (n : ℕ). take n whole) c)
         ∙ s.left
-        ∙ rw (run_next j r, old_next i g) (last-old (by_anchor anchor) (linear_by anchor) (points i l₀) (points j run) (point_at l₀ i) (point_at run j) (run_ascends j r) y)
+        ∙ rw (run_next j r, old_next i g) (last_old (by_anchor anchor) (linear_by anchor) (points i l₀) (points j run) (point_at l₀ i) (point_at run j) (run_ascends j r) y)
         ∙ ap (λ (p : Point). inserted (by_anchor anchor) (points i l₀) (points j run ++ point_at run j ∷ []) ++ p ∷ []) (sym x)
         ∙ rw (run_next j r) in (
           omega arith,
@@ -255,17 +255,17 @@ module _ (anchor : Point) (l₀ run : List Float) (m cap k : ℕ) where
         )
 
     -- the last cell of the run is placed
-    pub merge-new :
+    pub merge_new :
         (i j : ℕ) (l : List Float) → Merging i j l → 0 < j → before_last anchor (point_at run (j - 1)) l i ≡ false
         → Merging i (j - 1) (put_below cap l (i + (j - 1)) (point_at run (j - 1)))
     unfolding before_last
-    merge-new i zero l s h e = absurd (omega arith)
-    merge-new i (suc j) l s h e =
+    merge_new i zero l s h e = absurd (omega arith)
+    merge_new i (suc j) l s h e =
         let b : suc j - 1 ≡ j = omega arith in
         let c : i + suc j ≡ suc (i + j) = omega arith in
         let r : j < k = s.new_left in
         let w : take (suc (i + j)) whole ≡ inserted (by_anchor anchor) (points i l₀) (points j run) ++ point_at run j ∷ [] =
         sym (ap (λ (n : ℕ). take n whole) c)
         ∙ s.left
-        ∙ rw (run_next j r) (new-last i j l s.old_left s.front r (rw b at e)) in
+        ∙ rw (run_next j r) (new_last i j l s.old_left s.front r (rw b at e)) in
         rw b (placed i j l (point_at run j) s.old_left (omega arith) (omega (arith, s.old_left)) s.as_long s.front (rw c at s.back) w)

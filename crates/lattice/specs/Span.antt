@@ -130,10 +130,10 @@ pub through_is : (a b : ℕ) → through (of_rank a) (of_rank b) ≡ map of_rank
 unfolding through
 through_is a b = rw (width_is a b) (numbers_are a (suc b - a))
 
-pub through-cast :
+pub through_cast :
     (x y : Float)
     → through (as_i64 x) (as_i64 y) ≡ map of_rank (span (rank_of (as_i64 x)) (suc (rank_of (as_i64 y)) - rank_of (as_i64 x)))
-through-cast x y = rw (of_rank_cast x, of_rank_cast y) at (through_is (rank_of (as_i64 x)) (rank_of (as_i64 y)))
+through_cast x y = rw (of_rank_cast x, of_rank_cast y) at (through_is (rank_of (as_i64 x)) (rank_of (as_i64 y)))
 
 pub parity : (u : ℕ) → rem_euclid2 (of_rank u) ≡ u % 2
 unfolding rem_euclid2

@@ -76,17 +76,17 @@ module _ (piece : Piece) (c : Float) (near : List Rectangle) where
     unfolding field_widen
     widen_stop e = ap (λ (k : ℕ). field_widen n field honoring s_max k lo hi) more ∙ rw e
 
-    pub widen-up :
+    pub widen_up :
         hi -ᶠ lo ≤ᶠ 1e-3ᶠ *ᶠ s_max ≡ false → field_fits n field honoring (½ᶠ *ᶠ (lo +ᶠ hi)) ≡ true
         → field_widen n field honoring s_max turns lo hi ≡ field_widen n field honoring s_max (turns - 1) (½ᶠ *ᶠ (lo +ᶠ hi)) hi
     unfolding field_widen
-    widen-up e f = ap (λ (k : ℕ). field_widen n field honoring s_max k lo hi) more ∙ rw (e, f)
+    widen_up e f = ap (λ (k : ℕ). field_widen n field honoring s_max k lo hi) more ∙ rw (e, f)
 
-    pub widen-down :
+    pub widen_down :
         hi -ᶠ lo ≤ᶠ 1e-3ᶠ *ᶠ s_max ≡ false → field_fits n field honoring (½ᶠ *ᶠ (lo +ᶠ hi)) ≡ false
         → field_widen n field honoring s_max turns lo hi ≡ field_widen n field honoring s_max (turns - 1) lo (½ᶠ *ᶠ (lo +ᶠ hi))
     unfolding field_widen
-    widen-down e f = ap (λ (k : ℕ). field_widen n field honoring s_max k lo hi) more ∙ rw (e, f)
+    widen_down e f = ap (λ (k : ℕ). field_widen n field honoring s_max k lo hi) more ∙ rw (e, f)
 
   pub widen_end : (n : ℕ) (field : Field) (honoring : Bool) (s_max : Float) (turns : ℕ) (lo hi : Float) → turns ≤ 0 → field_widen n field honoring s_max turns lo hi ≡ lo
   unfolding field_widen
@@ -145,12 +145,12 @@ module _ (piece : Piece) (c : Float) (near : List Rectangle) where
   first_of_and true b e = let w : ◌≡◌ {A = ℕ} 0 1 = cc in absurd (omega arith)
   first_of_and false b e = refl
 
-  pub take-strict :
+  pub take_strict :
       (n : ℕ) (field : Field) (strict : Bool)
       → (not (nat_le n (length (cells_of field piece c near (at n)).free)) && strict) ≡ true
       → take_cells (cells_of field piece c near (at n)) n field.anchor true ≡ field_take n field true
   unfolding field_take
-  take-strict n field strict e =
+  take_strict n field strict e =
       ap (λ (cells : HexCells). take_cells cells n field.anchor true)
       (uncapped_cells n field (leb-false n (length (cells_of field piece c near (at n)).free) (first_of_and (nat_le n (length (cells_of field piece c near (at n)).free)) strict e)))
 
@@ -199,22 +199,22 @@ module _ (piece : Piece) (n : ℕ) (ctx : PackCtx) (near : List Rectangle) (fiel
   unfolding field_fits
   fits_is honoring s = ap (λ (cells : HexCells). leb n (available honoring cells)) (cells_at s (at n))
 
-  widen-is :
+  widen_is :
       (honoring : Bool) (s_max : Float) (turns : ℕ) (lo hi : Float)
       → widen piece n ctx rectangular near field.anchor honoring s_max turns lo hi ≡ field_widen piece (inset ctx) near n field honoring s_max turns lo hi
   unfolding widen field_widen
-  widen-is honoring s_max zero lo hi = refl
-  widen-is honoring s_max (suc turns) lo hi =
-      rw (fits_is honoring (½ᶠ *ᶠ (lo +ᶠ hi)), widen-is honoring s_max turns (½ᶠ *ᶠ (lo +ᶠ hi)) hi, widen-is honoring s_max turns lo (½ᶠ *ᶠ (lo +ᶠ hi)))
+  widen_is honoring s_max zero lo hi = refl
+  widen_is honoring s_max (suc turns) lo hi =
+      rw (fits_is honoring (½ᶠ *ᶠ (lo +ᶠ hi)), widen_is honoring s_max turns (½ᶠ *ᶠ (lo +ᶠ hi)) hi, widen_is honoring s_max turns lo (½ᶠ *ᶠ (lo +ᶠ hi)))
 
-  spread-is :
+  spread_is :
       (at_min : HexCells) (honoring : Bool)
       → spread_cells piece n ctx rectangular near field.anchor (ring_bounds (outer piece)) at_min honoring
       ≡ field_take piece (inset ctx) near n (with_spacing field (field_spacing piece (inset ctx) near n field honoring)) honoring
   unfolding spread_cells field_spacing field_take hypot
-  spread-is at_min honoring =
+  spread_is at_min honoring =
       let s_max = hypot (field.max_x -ᶠ field.min_x) (field.max_y -ᶠ field.min_y) in
-      rw (box, ← s-min, fits_is honoring (max s_max field.lattice.spacing), widen-is honoring s_max 24 field.lattice.spacing (max s_max field.lattice.spacing), cells_at _ never)
+      rw (box, ← s-min, fits_is honoring (max s_max field.lattice.spacing), widen_is honoring s_max 24 field.lattice.spacing (max s_max field.lattice.spacing), cells_at _ never)
 
   at_min : lattice_valid_cells piece field.anchor (record { spacing = spacing ctx; rectangular = field.lattice.rectangular }) (inset ctx) near (at n) ≡ cells_of field piece (inset ctx) near (at n)
   at_min = rw (← s-min) (cells_at field.lattice.spacing (at n))
@@ -239,16 +239,16 @@ module _ (piece : Piece) (n : ℕ) (ctx : PackCtx) (near : List Rectangle) (fiel
       is_packed
       ∙ ap (λ (b : Bool). packed b ctx.mode.strict_obstacles cells) e
       ∙ pick piece (inset ctx) near (not honoring && ctx.mode.strict_obstacles) (nat_lt (available honoring cells) n)
-      (take-strict piece (inset ctx) near n field ctx.mode.strict_obstacles)
+      (take_strict piece (inset ctx) near n field ctx.mode.strict_obstacles)
       (take_short piece (inset ctx) near n field honoring)
-      (spread-is cells honoring)
+      (spread_is cells honoring)
 
   -- ---- a trial only counts
-  pub trial-is :
+  pub trial_is :
       ctx.mode.spread ≡ false → ctx.mode.strict_obstacles ≡ true
       → length (pack_lattice piece n ctx rectangular near field.anchor) ≡ min n (length (cells_of field piece (inset ctx) near (at n)).free)
   unfolding packed
-  trial-is e f =
+  trial_is e f =
       let cells = cells_of field piece (inset ctx) near (at n) in
       ap length (is_packed ∙ ap (λ (b : Bool). packed b ctx.mode.strict_obstacles cells) e ∙ ap (λ (b : Bool). packed false b cells) f)
       ∙ counted n field.anchor cells (spread_cells piece n ctx rectangular near field.anchor (ring_bounds (outer piece)) cells (nat_le n (length cells.free))) (nat_le n (length cells.free)) (nat_lt (available (nat_le n (length cells.free)) cells) n) refl

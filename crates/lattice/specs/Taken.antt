@@ -40,11 +40,11 @@ unfolding take_cells
 taken n anchor cells honoring = chosen n anchor cells honoring (nat_le n (length cells.free)) refl
 
 -- blocked cells copied behind the free ones
-pub append-cells :
+pub append_cells :
     (ps qs : List Point) (l b : List Float) (q : ℕ) → q ≤ length qs → (length ps + q) * 2 ≤ length l
     → paste (written (flat ps) l) (length ps * 2) (written (flat qs) b) (q * 2) ≡ written (flat (ps ++ take q qs)) l
 unfolding written
-append-cells ps qs l b q h g =
+append_cells ps qs l b q h g =
     let n = length_flat ps in
     let e1 : take (length ps * 2) (flat ps ++ drop (length (flat ps)) l) ≡ flat ps = take_at (flat ps) (drop (length (flat ps)) l) (length ps * 2) n in
     let e2 : take (q * 2) (flat qs ++ drop (length (flat qs)) b) ≡ flat (take q qs) =
@@ -67,10 +67,10 @@ kept_le anchor nf nb cells t f b f₀ b₀ h =
     let m : t.blocked ≡ length (take nb (sort_by_anchor anchor cells.blocked)) = ap (λ (x : Counts). x.blocked) h.counts in
     (omega (arith, length-take nf (sort_by_anchor anchor cells.free)), omega (arith, length-take nb (sort_by_anchor anchor cells.blocked)))
 
-pub kept-lengths :
+pub kept_lengths :
     (anchor : Point) (nf nb : ℕ) (cells : HexCells) (t : Counts) (f b f₀ b₀ : List Float) → Holds (kept anchor nf nb cells) t f b f₀ b₀
     → nf * 2 ≤ length f₀ → nb * 2 ≤ length b₀ → (length f ≡ length f₀) × (length b ≡ length b₀)
-kept-lengths anchor nf nb cells t f b f₀ b₀ h n m =
+kept_lengths anchor nf nb cells t f b f₀ b₀ h n m =
     let free = take nf (sort_by_anchor anchor cells.free) in
     let blocked = take nb (sort_by_anchor anchor cells.blocked) in (
       ap length h.free_is ∙ length_written (flat free) f₀ (omega (arith, length_flat free, length-take nf (sort_by_anchor anchor cells.free))),
@@ -89,5 +89,5 @@ fill n cells t f b f₀ b₀ h k room more e =
     let same : take more cells.blocked ≡ take (n - length cells.free) cells.blocked = ap (λ (q : ℕ). take q cells.blocked) m ∙ sym (first_of (n - length cells.free) cells.blocked) in (
       simp (length-append, length-take) (omega arith),
       rw (tf, h.free_is, h.blocked_is)
-          (append-cells cells.free cells.blocked f₀ b₀ more (omega arith) (omega arith) ∙ ap (λ (qs : List Point). written (flat (cells.free ++ qs)) f₀) same),
+          (append_cells cells.free cells.blocked f₀ b₀ more (omega arith) (omega arith) ∙ ap (λ (qs : List Point). written (flat (cells.free ++ qs)) f₀) same),
     )

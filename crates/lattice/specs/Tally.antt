@@ -15,7 +15,7 @@ use Rattle.regions.specs.Clearance.{signed_clearance}
 use Rattle.regions.specs.Margin.{margin_of}
 use Rattle.lattice.specs.Escape.{point}
 use Rattle.lattice.specs.Lattice.{HexCells, no_cells, Cap, at, reached, judge, hex_enum_cap, row_height, all_cells, cells_within}
-use Rattle.lattice.specs.Rows.{row_of, width, cell_x, cells_from, visit, first_row, last_row, length_cells, no_cells_lem, cells-step, cells_end, rows_step, last_row_lem, no_cells_left, no_rows, visited}
+use Rattle.lattice.specs.Rows.{row_of, width, cell_x, cells_from, visit, first_row, last_row, length_cells, no_cells_lem, cells_step, cells_end, rows_step, last_row_lem, no_cells_left, no_rows, visited}
 use Rattle.lattice.specs.declared.count.Counts.{Counts}
 use Rattle.lattice.specs.declared.rows.Field.{Field}
 use Rattle.lattice.specs.declared.rows.Row.{Row}
@@ -79,11 +79,11 @@ module _ (piece : Piece) (min-clearance : Float) (near : List Rectangle) where
   module _ (cap : ℕ) (t : Counts) (row : Row) (s : Float) (k m : ℕ) (h : k < m) (x y : Float) (ex : x ≡ cell_x row s k) (ey : y ≡ row.y) (r : Counts) (er : r ≡ count_cell t (point x y)) where
     pub row_stop : cap ≤ r.free → tally cap t (cells_from row s k (m - k)) ≡ r
     unfolding tally
-    row_stop e = rw (cells-step row s k m h, ← ex, ← ey, ← er, le-leb _ _ e)
+    row_stop e = rw (cells_step row s k m h, ← ex, ← ey, ← er, le-leb _ _ e)
 
     pub row_next : r.free < cap → tally cap t (cells_from row s k (m - k)) ≡ tally cap r (cells_from row s (k + 1) (m - (k + 1)))
     unfolding tally
-    row_next e = rw (cells-step row s k m h, ← ex, ← ey, ← er, lt-leb _ _ e)
+    row_next e = rw (cells_step row s k m h, ← ex, ← ey, ← er, lt-leb _ _ e)
 
   pub row_end : (cap : ℕ) (t : Counts) (row : Row) (s : Float) (k m : ℕ) → m ≤ k → tally cap t (cells_from row s k (m - k)) ≡ t
   unfolding tally
@@ -94,22 +94,22 @@ module _ (piece : Piece) (min-clearance : Float) (near : List Rectangle) where
   row_none cap t row s m z = rw (z, no_cells_lem)
 
   -- ---- one list after another
-  append-into :
+  append_into :
       (cap : ℕ) (ys : List Point) (b : Bool) (q r w : Counts) → nat_le cap q.free ≡ b
       → (nat_le cap q.free ≡ false → w ≡ cond (nat_le cap r.free) r (tally cap r ys))
       → cond b q w ≡ cond (nat_le cap (cond b q r).free) (cond b q r) (tally cap (cond b q r) ys)
-  append-into cap ys true q r w e h = rw e
-  append-into cap ys false q r w e h = h e
+  append_into cap ys true q r w e h = rw e
+  append_into cap ys false q r w e h = h e
 
-  pub tally-append :
+  pub tally_append :
       (cap : ℕ) (t : Counts) (xs ys : List Point) → t.free < cap
       → tally cap t (xs ++ ys) ≡ cond (nat_le cap (tally cap t xs).free) (tally cap t xs) (tally cap (tally cap t xs) ys)
   unfolding tally
-  tally-append cap t [] ys h = rw (lt-leb cap t.free h)
-  tally-append cap t (p ∷ xs) ys h =
+  tally_append cap t [] ys h = rw (lt-leb cap t.free h)
+  tally_append cap t (p ∷ xs) ys h =
       let q = count_cell t p in
-      append-into cap ys (nat_le cap q.free) q (tally cap q xs) (tally cap q (xs ++ ys)) refl
-      (λ (e : leb cap q.free ≡ false). tally-append cap q xs ys (leb-false cap q.free e))
+      append_into cap ys (nat_le cap q.free) q (tally cap q xs) (tally cap q (xs ++ ys)) refl
+      (λ (e : leb cap q.free ≡ false). tally_append cap q xs ys (leb-false cap q.free e))
 
   -- ---- a turn of the loop over the rows: r is what is counted with the row of rank u
   module _ (cap : ℕ) (t : Counts) (field : Field) (row-h : Float) (u last left : ℕ) (h : u ≤ last) (row : Row) (e : row ≡ row_of field row-h u) (m : ℕ) (em : m ≡ min (width row) left) (r : Counts) (er : r ≡ tally cap t (cells_from row field.lattice.spacing 0 m)) where
@@ -117,10 +117,10 @@ module _ (piece : Piece) (min-clearance : Float) (near : List Rectangle) where
     parts = rw (em, e) (rows_step field row-h u last left h)
 
     pub rows_stop : t.free < cap → cap ≤ r.free → tally cap t (visit left field row-h u last) ≡ r
-    rows_stop g k = rw (parts, tally-append cap t (cells_from row field.lattice.spacing 0 m) _ g, ← er, le-leb _ _ k)
+    rows_stop g k = rw (parts, tally_append cap t (cells_from row field.lattice.spacing 0 m) _ g, ← er, le-leb _ _ k)
 
     pub rows_next : t.free < cap → r.free < cap → tally cap t (visit left field row-h u last) ≡ tally cap r (visit (left - m) field row-h (u + 1) last)
-    rows_next g k = rw (parts, tally-append cap t (cells_from row field.lattice.spacing 0 m) _ g, ← er, lt-leb _ _ k)
+    rows_next g k = rw (parts, tally_append cap t (cells_from row field.lattice.spacing 0 m) _ g, ← er, lt-leb _ _ k)
 
     pub rows_full : t.free < cap → r.free < cap → left - m ≡ 0 → tally cap t (visit left field row-h u last) ≡ r
     unfolding tally
@@ -155,23 +155,23 @@ module _ (piece : Piece) (min-clearance : Float) (near : List Rectangle) where
     judged true false = rw (lt-leb n (length cells.free) h, ← one_more cells.blocked) (later walled h)
     judged false b = rw (lt-leb n (length cells.free) h) (later cells h)
 
-  pub counts-judged :
+  pub counts_judged :
       (n : ℕ) (cells : HexCells) (ps : List Point) → length cells.free < n
       → counts_of (judge piece min-clearance near (at n) cells ps) ≡ tally n (counts_of cells) ps
   unfolding judge tally count_cell
-  counts-judged n cells [] h = refl
-  counts-judged n cells (p ∷ ps) h =
-      judged n cells p ps h (λ (found : HexCells) (k : length found.free < n). counts-judged n found ps k)
+  counts_judged n cells [] h = refl
+  counts_judged n cells (p ∷ ps) h =
+      judged n cells p ps h (λ (found : HexCells) (k : length found.free < n). counts_judged n found ps k)
       (signed_clearance p.x p.y piece ≥ᶠ min-clearance) (clear_of_obstacles p.x p.y near min-clearance)
 
-  pub cells-counted :
+  pub cells_counted :
       (field : Field) (cap : ℕ) → 0 < cap → field.lattice.spacing ≤ᶠ 0ᶠ ≡ false → is_finite field.lattice.spacing ≡ true
       → let row-h = row_height field.lattice in
       counts_of (cells_of field piece min-clearance near (at cap)) ≡ tally cap none (visit hex_enum_cap field row-h (first_row field row-h) (last_row field row-h))
   unfolding cells_within
-  cells-counted field cap h e f =
+  cells_counted field cap h e f =
       rw (e, f)
-      (counts-judged cap no_cells (take hex_enum_cap (all_cells field.lattice field.anchor field.min_x field.max_x field.min_y field.max_y)) h
+      (counts_judged cap no_cells (take hex_enum_cap (all_cells field.lattice field.anchor field.min_x field.max_x field.min_y field.max_y)) h
       ∙ ap (tally cap none) (visited field hex_enum_cap))
 
   pub cells_none : (field : Field) (cap : Cap) → (field.lattice.spacing ≤ᶠ 0ᶠ || not (is_finite field.lattice.spacing)) ≡ true → cells_of field piece min-clearance near cap ≡ no_cells

@@ -72,17 +72,17 @@ module _ {A : Type 0} (R : A → A → Type 0) where
   pairwise_append (x ∷ xs) ys p q r = (every_append (R x) xs ys p.0 r.0, pairwise_append xs ys p.1 q r.1)
 
   module _ (both : (x y : A) → R x y → R y x) where
-    pairwise-place :
+    pairwise_place :
         (cmp : A → A → Ordering) (o : Ordering) (x y : A) (ys : List A) → Every (R x) (y ∷ ys) → Pairwise (y ∷ ys) → Pairwise (insert cmp x ys)
         → Pairwise (place cmp o x y ys (insert cmp x ys))
-    pairwise-place cmp Ordering.lt x y ys p q r = (p, q)
-    pairwise-place cmp Ordering.eq x y ys p q r = (p, q)
-    pairwise-place cmp Ordering.gt x y ys p q r = (every_insert (R y) cmp x ys (both x y p.0) q.0, r)
+    pairwise_place cmp Ordering.lt x y ys p q r = (p, q)
+    pairwise_place cmp Ordering.eq x y ys p q r = (p, q)
+    pairwise_place cmp Ordering.gt x y ys p q r = (every_insert (R y) cmp x ys (both x y p.0) q.0, r)
 
     pairwise_insert : (cmp : A → A → Ordering) (x : A) (xs : List A) → Every (R x) xs → Pairwise xs → Pairwise (insert cmp x xs)
     unfolding insert
     pairwise_insert cmp x [] p q = (tt, tt)
-    pairwise_insert cmp x (y ∷ ys) p q = pairwise-place cmp (cmp x y) x y ys p q (pairwise_insert cmp x ys p.1 q.1)
+    pairwise_insert cmp x (y ∷ ys) p q = pairwise_place cmp (cmp x y) x y ys p q (pairwise_insert cmp x ys p.1 q.1)
 
     pub pairwise_sort : (cmp : A → A → Ordering) (xs : List A) → Pairwise xs → Pairwise (sort_by cmp xs)
     unfolding sort_by

@@ -78,10 +78,10 @@ module _ {A : Type 0} where
   length_written xs l h = simp (length-append, length-drop) (omega arith)
 
   -- a turn of a loop that writes a rule's values in order
-  pub write-next :
+  pub write_next :
       (f : ℕ → A) (xs l : List A) (n : ℕ) (v : A) → xs ≡ written (tabulate f n) l → v ≡ f n → n < length l
       → set xs n v ≡ written (tabulate f (n + 1)) l
-  write-next f xs l n v e h k =
+  write_next f xs l n v e h k =
       rw (e, h, tabulate_next f n) (written_next (tabulate f n) l n (f n) (length_tabulate f n) k)
 
   -- a default is not looked at within the list

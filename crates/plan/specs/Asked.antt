@@ -24,7 +24,7 @@ use Rattle.glyphs.specs.declared.stream.Stream.{Stream}
 use Rattle.regions.specs.Ring.{Piece, outer, sum}
 use Rattle.deepest.specs.declared.search.Deepest.{Deepest}
 use Rattle.deepest.specs.declared.search.Deepest.TheVariants.{Found, Nothing, Full}
-use Rattle.relax.specs.Kept.{length-relaxed}
+use Rattle.relax.specs.Kept.{length_relaxed}
 use Rattle.relax.specs.Scatter.{source, relax_scatter}
 use Rattle.relax.specs.declared.Spreading.{Spreading}
 use Rattle.lattice.specs.Context.{inset, spacing}
@@ -119,7 +119,7 @@ module _ (piece : Piece) (n : ℕ) (ctx : PackCtx) (obstacles : List Rectangle) 
       few = thrown_count piece n attempts ctx near min-x max-x min-y max-y rng
 
       go : (b : Bool) → length (cond b (record { placed = relax_scatter numbers thrown.placed piece near (spacing ctx) (inset ctx); rng = thrown.rng }) thrown).placed ≤ n
-      go true = rw (length-relaxed numbers thrown.placed piece near (spacing ctx) (inset ctx)) few
+      go true = rw (length_relaxed numbers thrown.placed piece near (spacing ctx) (inset ctx)) few
       go false = few
 
   piece_count : (numbers : Spreading) (options : GlyphOptions) (arrangement : GlyphArrangement) (found : Deepest) (rng : Stream) → length (pack_piece_from numbers options arrangement ctx obstacles found piece n rng).placed ≤ n
@@ -220,15 +220,15 @@ module _ (s rows rings sizes : List ℕ) (coords : List Float) (zone : Zone) (zo
 -- ---- all zones
 
 module _ (options : GlyphOptions) (s rows rings sizes : List ℕ) (coords : List Float) (shares : List ℕ) (deepest : List Float) where
-  all-packable :
+  all_packable :
       (zones : List Zone) (z : ℕ) (at : Offsets) → Left s rows rings sizes coords zones z at → Filled options shares deepest zones at → at.piece ≤ length shares → at.piece * 3 ≤ length deepest
       → EachRow rows rings sizes (Packable s rings sizes coords shares deepest) (length zones) z at
   unfolding EachRow
-  all-packable [] z at l f p q = tt
-  all-packable (zone ∷ zones) z at l f p q =
+  all_packable [] z at l f p q = tt
+  all_packable (zone ∷ zones) z at l f p q =
       let past = past_piece rings sizes (row_of rows z) at in (
         packable s rows rings sizes coords zone zones z at l options shares deepest f p q,
-        all-packable zones (z + 1) (past_row rings sizes (row_of rows z) at) (left_next s rows rings sizes coords zone zones z at l) (filled_next options s rows rings sizes coords shares deepest zone zones z at l f)
+        all_packable zones (z + 1) (past_row rings sizes (row_of rows z) at) (left_next s rows rings sizes coords zone zones z at l) (filled_next options s rows rings sizes coords shares deepest zone zones z at l f)
             (rw past (shares_fit s rows rings sizes coords zone zones z at l options shares deepest f p))
             (rw past (deepest_fit s rows rings sizes coords zone zones z at l options shares deepest f q)),
       )
@@ -236,7 +236,7 @@ module _ (options : GlyphOptions) (s rows rings sizes : List ℕ) (coords : List
   pub floor_is :
       (zones : List Zone) → Left s rows rings sizes coords zones 0 start → Filled options shares deepest zones start → length zones * 4 ≤ length rows
       → Floor s (length zones) rows rings sizes coords shares deepest
-  floor_is zones l f h = record { long = h; each = all-packable zones 0 start l f (omega arith) (omega arith) }
+  floor_is zones l f h = record { long = h; each = all_packable zones 0 start l f (omega arith) (omega arith) }
 
   pub all_fair :
       (sizing : Sizing) (obstacles : List Rectangle) (zones : List Zone) (z : ℕ) (at : Offsets) → Left s rows rings sizes coords zones z at → Filled options shares deepest zones at

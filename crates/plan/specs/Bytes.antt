@@ -11,7 +11,7 @@ use Rattle.glyphs.specs.declared.rect.Rectangle.{Rectangle}
 use Rattle.format.specs.Numbers.{float_bytes}
 use Rattle.sheet.specs.Sheet.{Placement, zone_head, placement_bytes}
 use Rattle.sheet.specs.Back.{length_placement}
-use Rattle.sheet.specs.Laws.{put-placement}
+use Rattle.sheet.specs.Laws.{put_placement}
 use Rattle.discs.specs.declared.options.GlyphOptions.{GlyphOptions}
 use Rattle.discs.specs.declared.radius.Sizing.{Sizing}
 use Rattle.discs.specs.declared.rows.Row.{Row}
@@ -42,14 +42,14 @@ module _ (s : List ℕ) (row : Row) (placed : ℕ) (spots : List Float) (h : row
   pub bytes_long : length (placement_bytes (placement_of s row placed spots)) ≡ 5 + row.len + 16 * placed
   bytes_long = omega (arith, length_placement (placement_of s row placed spots), key_long, spots_long)
 
-  pub placement-put :
+  pub placement_put :
       (l₀ l₁ l₂ : List ℕ) (at from : ℕ) (part : List Float) → from ≡ at + 5 + row.len → l₁ ≡ sets l₀ at (zone_head (cut row.key row.len s) placed (row.count - placed))
       → part ≡ cut 0 (placed * 2) spots → l₂ ≡ sets l₁ from (flat_map float_bytes part) → Put (placement_bytes (placement_of s row placed spots)) at (from + 16 * placed) l₀ l₂
-  placement-put l₀ l₁ l₂ at from part f e₁ p e₂ =
+  placement_put l₀ l₁ l₂ at from part f e₁ p e₂ =
       let half : length (take (placed * 2) spots) / 2 ≡ placed = rw spots_long (omega arith) in
       record {
         ends = omega (arith, f, bytes_long);
-        put = e₂ ∙ rw (e₁, p, f) (rw (half, key_long) at (put-placement l₀ at (placement_of s row placed spots)));
+        put = e₂ ∙ rw (e₁, p, f) (rw (half, key_long) at (put_placement l₀ at (placement_of s row placed spots)));
       }
 
 module _ (sizing : Sizing) (options : GlyphOptions) (obstacles : List Rectangle) (s rings sizes : List ℕ) (coords : List Float) (quotas : List ℕ) (deepest : List Float) (row : Row) (at : Offsets) where
@@ -65,12 +65,12 @@ module _ (sizing : Sizing) (options : GlyphOptions) (obstacles : List Rectangle)
   unfolding placed_at
   one_in e = rw e
 
-  pub bytes-in :
+  pub bytes_in :
       (placed : ℕ) (spots₀ spots₁ : List Float) → row_is_left_in row ≡ true → placed ≡ placed_in (spots_at sizing options obstacles s rings sizes coords quotas deepest row at)
       → spots₁ ≡ written (flat (flatten (spots_at sizing options obstacles s rings sizes coords quotas deepest row at))) spots₀
       → placement_bytes (placement_of s row placed spots₁) ≡ bytes_at sizing options obstacles s rings sizes coords quotas deepest row at
   unfolding bytes_at placed_at flat_map placement_for handed_at
-  bytes-in placed spots₀ spots₁ e p q =
+  bytes_in placed spots₀ spots₁ e p q =
       let all = spots_at sizing options obstacles s rings sizes coords quotas deepest row at in
       let f : take (placed_in all * 2) (written (flat (flatten all)) spots₀) ≡ flat (flatten all) = front_is (flat (flatten all)) spots₀ (placed_in all * 2) (length_joined all) in
       rw (e, p, q, f) (sym (append-nil _))
@@ -79,4 +79,4 @@ module _ (sizing : Sizing) (options : GlyphOptions) (obstacles : List Rectangle)
       (placed : ℕ) (spots₀ spots₁ : List Float) → row_is_left_in row ≡ true → placed ≡ placed_in (spots_at sizing options obstacles s rings sizes coords quotas deepest row at)
       → spots₁ ≡ written (flat (flatten (spots_at sizing options obstacles s rings sizes coords quotas deepest row at))) spots₀ → row.key + row.len ≤ length s → placed * 2 ≤ length spots₁
       → length (bytes_at sizing options obstacles s rings sizes coords quotas deepest row at) ≡ 5 + row.len + 16 * placed
-  bytes_count placed spots₀ spots₁ e p q h i = rw (← bytes-in placed spots₀ spots₁ e p q) (bytes_long s row placed spots₁ h i)
+  bytes_count placed spots₀ spots₁ e p q h i = rw (← bytes_in placed spots₀ spots₁ e p q) (bytes_long s row placed spots₁ h i)

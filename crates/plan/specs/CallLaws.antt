@@ -26,7 +26,7 @@ use Rattle.job.specs.Plan.{search_fault, ceiling_fault, number_of, placements_of
 use Rattle.discs.specs.Region.{Zone}
 use Rattle.plan.specs.declared.answer.Answer.{Answer}
 use Rattle.plan.specs.Sized.{refused_by}
-use Rattle.plan.specs.Read.{zone_count, left-read}
+use Rattle.plan.specs.Read.{zone_count, left_read}
 use Rattle.plan.specs.Called.{ReadIn, Answered, items_number, answer_of, given_by}
 use Rattle.plan.specs.Later.{is_early, lent_early, work_early, items_later}
 
@@ -115,7 +115,7 @@ module _
         choices = unfold job_of in read.choices;
         pillars = pillars_read;
         count = unfold job_of in read.count ∙ sym (zone_count s);
-        left = unfold job_of in rw (p.row, p.counted, p.sized, p.coords) (left-read s read.whole rows rings sizes coords);
+        left = unfold job_of in rw (p.row, p.counted, p.sized, p.coords) (left_read s read.whole rows rings sizes coords);
       }
 
   -- the sheet does not fit
@@ -131,10 +131,10 @@ module _
       let f = lacks_room room (length sheet) e h in
       refused_with (items_number s (length sheet)) (job_of s) answer sheet 14 (sym f) (λ (z : items_number s (length sheet) ≡ 0). omega (arith, sym f ∙ z)) a
 
-  pub zones-answered :
+  pub zones_answered :
       (room : ℕ) (answer : Answer) (sheet sheet' : List ℕ) → room ≡ 15 + rows_room n rows' → room ≤ length sheet
       → Answered (search_fault (job_of s) or_else ceiling_fault (job_of s)) (job_of s) answer sheet sheet' → Answered (items_number s (length sheet)) (job_of s) answer sheet sheet'
-  zones-answered room answer sheet sheet' e h a = subst (λ (x : ℕ). Answered x (job_of s) answer sheet sheet') (sym (has_room room (length sheet) e h)) a
+  zones_answered room answer sheet sheet' e h a = subst (λ (x : ℕ). Answered x (job_of s) answer sheet sheet') (sym (has_room room (length sheet) e h)) a
 
 -- ---- the reader refused
 
@@ -215,34 +215,34 @@ module _ (s : List ℕ) (first second : List Float) (sheet : List ℕ) where
   unfolding given
   given_answer placements r e = e
 
-  given-lent :
+  given_lent :
       (placements : Placements) (sheet' : List ℕ) → sheet' ≡ written (sheet_of (sheet_for placements)) sheet
       → (cleared first ≡ (given placements first second sheet).first) × (cleared second ≡ (given placements first second sheet).second) × (sheet' ≡ (given placements first second sheet).sheet)
   unfolding given work_after
-  given-lent placements sheet' e = (refl, refl, e)
+  given_lent placements sheet' e = (refl, refl, e)
 
-  refused-lent :
+  refused_lent :
       (n : ℕ) (sheet' : List ℕ) → is_early n ≡ false → sheet' ≡ sheet
       → (cleared first ≡ (refused n first second sheet).first) × (cleared second ≡ (refused n first second sheet).second) × (sheet' ≡ (refused n first second sheet).sheet)
   unfolding refused work_after
-  refused-lent n sheet' later e = rw later (refl, refl, e)
+  refused_lent n sheet' later e = rw later (refl, refl, e)
 
-  ends-later :
+  ends_later :
       (n : ℕ) (r : Answer) (sheet' : List ℕ) → number_of s first second sheet ≡ n → is_early n ≡ false → Answered n (job_of s) r sheet sheet'
       → Ends r (cleared first) (cleared second) sheet'
-  ends-later zero r sheet' e later a =
+  ends_later zero r sheet' e later a =
       let p = plan_given e in
       let g = a.given refl in
-      record { answer = rw p (given_answer (placements_of (job_of s)) r g.0); lent = rw p (given-lent (placements_of (job_of s)) sheet' g.1) }
-  ends-later (suc n) r sheet' e later a =
+      record { answer = rw p (given_answer (placements_of (job_of s)) r g.0); lent = rw p (given_lent (placements_of (job_of s)) sheet' g.1) }
+  ends_later (suc n) r sheet' e later a =
       let h : suc n ≡ 0 → ⊥ = λ z. omega arith in
       let p = plan_refused (suc n) e h in
       let g = a.refused h in
-      record { answer = rw p (refused_answer (suc n) r g.0); lent = rw p (refused-lent (suc n) sheet' later g.1) }
+      record { answer = rw p (refused_answer (suc n) r g.0); lent = rw p (refused_lent (suc n) sheet' later g.1) }
 
-  pub ends-cleared :
+  pub ends_cleared :
       (r : Answer) (first' second' : List Float) (sheet' : List ℕ) → lent_fault s ≡ 0 → work_fault (length first) (length second) ≡ 0
       → first' ≡ cleared first → second' ≡ cleared second
       → Answered (items_number s (length sheet)) (job_of s) r sheet sheet' → Ends r first' second' sheet'
-  ends-cleared r first' second' sheet' l w a b answered =
-      rw (a, b) (ends-later (items_number s (length sheet)) r sheet' (sym (number_items l w)) (items_later s (length sheet)) answered)
+  ends_cleared r first' second' sheet' l w a b answered =
+      rw (a, b) (ends_later (items_number s (length sheet)) r sheet' (sym (number_items l w)) (items_later s (length sheet)) answered)

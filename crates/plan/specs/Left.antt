@@ -117,27 +117,27 @@ module _ (s rows rings sizes : List ℕ) (coords : List Float) (zone : Zone) (zo
 
 -- ---- all zones
 
-pub all-readable :
+pub all_readable :
     (s rows rings sizes : List ℕ) (coords : List Float) (zones : List Zone) (z : ℕ) (at : Offsets) → Left s rows rings sizes coords zones z at
     → EachRow rows rings sizes (Readable rings sizes coords) (length zones) z at
 unfolding EachRow
-all-readable s rows rings sizes coords [] z at l = tt
-all-readable s rows rings sizes coords (zone ∷ zones) z at l =
-    (own_readable s rows rings sizes coords zone zones z at l, all-readable s rows rings sizes coords zones (z + 1) (past_row rings sizes (row_of rows z) at) (left_next s rows rings sizes coords zone zones z at l))
+all_readable s rows rings sizes coords [] z at l = tt
+all_readable s rows rings sizes coords (zone ∷ zones) z at l =
+    (own_readable s rows rings sizes coords zone zones z at l, all_readable s rows rings sizes coords zones (z + 1) (past_row rings sizes (row_of rows z) at) (left_next s rows rings sizes coords zone zones z at l))
 
 -- a walk over the rows is one over the zones, where each row's view is the zone's
-pub flat-zones :
+pub flat_zones :
     {A : Type 0} (view : Row → Offsets → List A) (own : Zone → List A) (s rows rings sizes : List ℕ) (coords : List Float)
     → ((zone : Zone) (zones : List Zone) (z : ℕ) (at : Offsets) → Left s rows rings sizes coords (zone ∷ zones) z at → view (row_of rows z) at ≡ own zone)
     → (zones : List Zone) (z : ℕ) (at : Offsets) → Left s rows rings sizes coords zones z at → flat_rows rows rings sizes view (length zones) z at ≡ flat_map own zones
 unfolding flat_rows flat_map
-flat-zones view own s rows rings sizes coords same [] z at l = refl
-flat-zones view own s rows rings sizes coords same (zone ∷ zones) z at l =
-    rw (same zone zones z at l, flat-zones view own s rows rings sizes coords same zones (z + 1) (past_row rings sizes (row_of rows z) at) (left_next s rows rings sizes coords zone zones z at l))
+flat_zones view own s rows rings sizes coords same [] z at l = refl
+flat_zones view own s rows rings sizes coords same (zone ∷ zones) z at l =
+    rw (same zone zones z at l, flat_zones view own s rows rings sizes coords same zones (z + 1) (past_row rings sizes (row_of rows z) at) (left_next s rows rings sizes coords zone zones z at l))
 
 -- the quotas of all pieces
 pub shares_are : (s rows rings sizes : List ℕ) (coords : List Float) (zones : List Zone) (z : ℕ) (at : Offsets) → Left s rows rings sizes coords zones z at → flat_rows rows rings sizes (shares_at rings sizes coords) (length zones) z at ≡ flat_map quotas zones
-shares_are s rows rings sizes coords zones z at l = flat-zones (shares_at rings sizes coords) quotas s rows rings sizes coords same zones z at l
+shares_are s rows rings sizes coords zones z at l = flat_zones (shares_at rings sizes coords) quotas s rows rings sizes coords same zones z at l
   where
     same : (zone : Zone) (zones : List Zone) (z : ℕ) (at : Offsets) → Left s rows rings sizes coords (zone ∷ zones) z at → shares_at rings sizes coords (row_of rows z) at ≡ quotas zone
     same zone zones z at l = unfold shares_at quotas in rw (own_pieces s rows rings sizes coords zone zones z at l, (own_row s rows rings sizes coords zone zones z at l).count)

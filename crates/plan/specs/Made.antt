@@ -20,7 +20,7 @@ use Rattle.discs.specs.Radius.{boundary_gap_of, analytic_r_hi, feasible}
 use Rattle.discs.specs.PlaceGlyphs.{is_left_in, work_of, size_for, sizing}
 use Rattle.discs.specs.Searches.{is_searched, searched, searches_in, had_room}
 use Rattle.discs.specs.Floor.{Handed, handed_work, handed_r_hi, handed_feasible}
-use Rattle.discs.specs.FloorLaws.{OwnPoints, OwnPacking, zones_of, ceiling_own, size-own, stated-any}
+use Rattle.discs.specs.FloorLaws.{OwnPoints, OwnPacking, zones_of, ceiling_own, size_own, stated_any}
 use Rattle.relax.specs.Scatter.{source}
 use Rattle.job.specs.Plan.{room, ceiling_of}
 use Rattle.plan.specs.Own.{length_quotas, found_of, own_of}
@@ -117,6 +117,6 @@ module _ (options : GlyphOptions) where
         go Auto e =
             unfold ceiling_for in
             let p : packs_at options.radius ≡ true = unfold packs_at in rw e in
-            size-own room options source work (each_own (OwnPacking room options) (λ (zone : Zone) (f : Found zone). packing_own options zone p f.left_in f.fits)) (sanitize_obstacles given) Auto (handed_r_hi work (boundary_gap_of options))
+            size_own room options source work (each_own (OwnPacking room options) (λ (zone : Zone) (f : Found zone). packing_own options zone p f.left_in f.fits)) (sanitize_obstacles given) Auto (handed_r_hi work (boundary_gap_of options))
             ∙ rw (ceiling_auto e, work_back)
-        go (Stated x) e = stated-any _ _ (sanitize_obstacles given) (sanitize_obstacles given) x _ _
+        go (Stated x) e = stated_any _ _ (sanitize_obstacles given) (sanitize_obstacles given) x _ _

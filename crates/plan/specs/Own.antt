@@ -88,13 +88,13 @@ module _
       }
 
 -- all zones are handed in as their own
-pub handed-zones :
+pub handed_zones :
     (options : GlyphOptions) (s rows rings sizes : List ℕ) (coords : List Float) (shares : List ℕ) (deepest : List Float) (zones : List Zone) (z : ℕ) (at : Offsets)
     → Left s rows rings sizes coords zones z at → Filled options shares deepest zones at
     → handed_from s rings sizes coords shares deepest rows (length zones) z at ≡ map (own_of options) zones
 unfolding handed_from
-handed-zones options s rows rings sizes coords shares deepest [] z at l f = refl
-handed-zones options s rows rings sizes coords shares deepest (zone ∷ zones) z at l f =
+handed_zones options s rows rings sizes coords shares deepest [] z at l f = refl
+handed_zones options s rows rings sizes coords shares deepest (zone ∷ zones) z at l f =
     rw (handed_own options s rows rings sizes coords shares deepest zone zones z at l f)
     (ap (λ (t : List Handed). own_of options zone ∷ t)
-    (handed-zones options s rows rings sizes coords shares deepest zones (z + 1) (past_row rings sizes (row_of rows z) at) (left_next s rows rings sizes coords zone zones z at l) (filled_next options s rows rings sizes coords shares deepest zone zones z at l f)))
+    (handed_zones options s rows rings sizes coords shares deepest zones (z + 1) (past_row rings sizes (row_of rows z) at) (left_next s rows rings sizes coords zone zones z at l) (filled_next options s rows rings sizes coords shares deepest zone zones z at l f)))

@@ -17,7 +17,7 @@ use Rattle.discs.specs.Radius.{context_at}
 use Rattle.discs.specs.PlaceGlyphs.{Placed, is_left_in, work_of, pack}
 use Rattle.discs.specs.Searches.{had_room}
 use Rattle.discs.specs.Floor.{row_of, past_row}
-use Rattle.discs.specs.FloorLaws.{OwnPacking, pack-own}
+use Rattle.discs.specs.FloorLaws.{OwnPacking, pack_own}
 use Rattle.relax.specs.Scatter.{source}
 use Rattle.job.specs.Plan.{placement_of}
 use Rattle.plan.specs.Rows.{flat_rows}
@@ -35,12 +35,12 @@ module _ (sizing : Sizing) (options : GlyphOptions) (obstacles : List Rectangle)
       spots_of (At size) zone = pack_region 1600 source options (context_at options (pack options) size.radius) obstacles zone
 
 -- a zone's own packing is the definition's
-pub place-own :
+pub place_own :
     (sizing : Sizing) (options : GlyphOptions) (obstacles : List Rectangle) (zone : Zone) → OwnPacking 1600 options (own_of options zone)
     → placement_for sizing options obstacles (own_of options zone) ≡ placement_of (placed_of sizing options obstacles zone)
 unfolding placement_for placement_of placed_of place_for
-place-own Unplaced options obstacles zone o = refl
-place-own (At size) options obstacles zone o = rw (pack-own 1600 options source (context_at options (pack options) size.radius) obstacles (own_of options zone) o)
+place_own Unplaced options obstacles zone o = refl
+place_own (At size) options obstacles zone o = rw (pack_own 1600 options source (context_at options (pack options) size.radius) obstacles (own_of options zone) o)
 
 module _
     (sizing : Sizing) (options : GlyphOptions) (obstacles : List Rectangle) (s rows rings sizes : List ℕ) (coords : List Float) (shares : List ℕ) (deepest : List Float)
@@ -60,15 +60,15 @@ module _
   unfolding all
   first_rest zone zones h = both_true (all had_room (found_of options zone)) (all (λ (zone : Zone). all had_room (found_of options zone)) zones) h
 
-  pub placed-are :
+  pub placed_are :
       (zones : List Zone) (z : ℕ) (at : Offsets) → Left s rows rings sizes coords zones z at → Filled options shares deepest zones at
       → all (λ (zone : Zone). all had_room (found_of options zone)) zones ≡ true
       → flat_rows rows rings sizes (placed_at sizing options obstacles s rings sizes coords shares deepest) (length zones) z at ≡ map put (work_of zones)
   unfolding flat_rows placed_at work_of
-  placed-are [] z at l f h = refl
-  placed-are (zone ∷ zones) z at l f h =
+  placed_are [] z at l f h = refl
+  placed_are (zone ∷ zones) z at l f h =
       let p = first_rest zone zones h in
       let next = past_row rings sizes (row_of rows z) at in
       rw (own_left_in s rows rings sizes coords zone zones z at l, handed_own options s rows rings sizes coords shares deepest zone zones z at l f)
       (one_placed zone (work_of zones) _ (is_left_in zone) refl p.0
-      (placed-are zones (z + 1) next (left_next s rows rings sizes coords zone zones z at l) (filled_next options s rows rings sizes coords shares deepest zone zones z at l f) p.1))
+      (placed_are zones (z + 1) next (left_next s rows rings sizes coords zone zones z at l) (filled_next options s rows rings sizes coords shares deepest zone zones z at l f) p.1))

@@ -17,7 +17,7 @@ use Rattle.job.specs.Job.{rings_of}
 use Rattle.plan.specs.Rows.{flat_rows, all_rows, shares_at, fits_at, threes_at}
 use Rattle.plan.specs.Left.{Left, shares_are}
 use Rattle.plan.specs.Own.{length_quotas, length_threes_of, found_of, threes_of, Filled}
-use Rattle.plan.specs.Read.{threes-are, fits-are}
+use Rattle.plan.specs.Read.{threes_are, fits_are}
 
 all_quotas : (zones : List Zone) → length (flat_map quotas zones) ≡ length (rings_of zones)
 unfolding flat_map rings_of
@@ -47,7 +47,7 @@ module _
 
   -- row 15
   pub fits_put : all_rows rows rings sizes (fits_at rings sizes coords options shares) (length zones) 0 start ≡ all (λ (zone : Zone). all had_room (found_of options zone)) zones
-  fits_put = fits-are options s rows rings sizes coords shares (flat_map (threes_of options) zones) zones 0 start l alone
+  fits_put = fits_are options s rows rings sizes coords shares (flat_map (threes_of options) zones) zones 0 start l alone
 
   pub filled_put :
       (deepest₀ deepest : List Float) → length rings * 3 ≤ length deepest₀ → deepest ≡ sets deepest₀ 0 (flat_rows rows rings sizes (threes_at rings sizes coords options shares) (length zones) 0 start)
@@ -56,4 +56,4 @@ module _
   filled_put deepest₀ deepest i d =
       let threes = flat_map (threes_of options) zones in
       with_shares deepest (drop (length threes) deepest₀)
-      (d ∙ rw (threes-are options s rows rings sizes coords shares threes zones 0 start l alone) (sets_written threes deepest₀ (omega (arith, all_threes options zones, few, i))))
+      (d ∙ rw (threes_are options s rows rings sizes coords shares threes zones 0 start l alone) (sets_written threes deepest₀ (omega (arith, all_threes options zones, few, i))))

@@ -31,11 +31,11 @@ unfolding zones
 zone_count s = length_each (zone_end s) (zone s) (u16 s (zones_at s)) (zones_at s + 2)
 
 -- the slices that the reader leaves
-pub left-read :
+pub left_read :
     (s : List ℕ) → items_fault s ≡ 0 → (rows rings sizes : List ℕ) (coords : List Float)
     → Left s (written (rows_of s) rows) (written (rings_of (zones s)) rings) (written (sizes_of (zones s)) sizes) (written (coords_of (zones s)) coords) (zones s) 0 start
 unfolding written
-left-read s ok rows rings sizes coords =
+left_read s ok rows rings sizes coords =
     record {
       is_row = λ (d : Zone) (i : ℕ) (h : i < length (zones s)). let e : 0 + i ≡ i = omega arith in rw e (rows_are s ok rows d i (omega (arith, zone_count s)));
       rest_rings = drop (length (rings_of (zones s))) rings;
@@ -51,28 +51,28 @@ left-read s ok rows rings sizes coords =
     }
 
 module _ (options : GlyphOptions) (s rows rings sizes : List ℕ) (coords : List Float) (shares : List ℕ) (deepest : List Float) where
-  found-own :
+  found_own :
       (zone : Zone) (zones : List Zone) (z : ℕ) (at : Offsets) → Left s rows rings sizes coords (zone ∷ zones) z at → Filled options shares deepest (zone ∷ zones) at
       → found_at rings sizes coords options shares (row_of rows z) at ≡ found_of options zone
   unfolding found_at found_of
-  found-own zone zones z at l f =
+  found_own zone zones z at l f =
       rw (own_left_in s rows rings sizes coords zone zones z at l, own_pieces s rows rings sizes coords zone zones z at l, own_shares options s rows rings sizes coords shares deepest zone zones z at l f)
 
-  pub threes-are :
+  pub threes_are :
       (zones : List Zone) (z : ℕ) (at : Offsets) → Left s rows rings sizes coords zones z at → Filled options shares deepest zones at
       → flat_rows rows rings sizes (threes_at rings sizes coords options shares) (length zones) z at ≡ flat_map (threes_of options) zones
   unfolding flat_rows flat_map threes_at
-  threes-are [] z at l f = refl
-  threes-are (zone ∷ zones) z at l f =
-      rw (found-own zone zones z at l f, threes-are zones (z + 1) (past_row rings sizes (row_of rows z) at) (left_next s rows rings sizes coords zone zones z at l) (filled_next options s rows rings sizes coords shares deepest zone zones z at l f))
+  threes_are [] z at l f = refl
+  threes_are (zone ∷ zones) z at l f =
+      rw (found_own zone zones z at l f, threes_are zones (z + 1) (past_row rings sizes (row_of rows z) at) (left_next s rows rings sizes coords zone zones z at l) (filled_next options s rows rings sizes coords shares deepest zone zones z at l f))
 
-  pub fits-are :
+  pub fits_are :
       (zones : List Zone) (z : ℕ) (at : Offsets) → Left s rows rings sizes coords zones z at → Filled options shares deepest zones at
       → all_rows rows rings sizes (fits_at rings sizes coords options shares) (length zones) z at ≡ all (λ (zone : Zone). all had_room (found_of options zone)) zones
   unfolding all_rows all fits_at
-  fits-are [] z at l f = refl
-  fits-are (zone ∷ zones) z at l f =
-      rw (found-own zone zones z at l f, fits-are zones (z + 1) (past_row rings sizes (row_of rows z) at) (left_next s rows rings sizes coords zone zones z at l) (filled_next options s rows rings sizes coords shares deepest zone zones z at l f))
+  fits_are [] z at l f = refl
+  fits_are (zone ∷ zones) z at l f =
+      rw (found_own zone zones z at l f, fits_are zones (z + 1) (past_row rings sizes (row_of rows z) at) (left_next s rows rings sizes coords zone zones z at l) (filled_next options s rows rings sizes coords shares deepest zone zones z at l f))
 
 -- ---- row 15
 

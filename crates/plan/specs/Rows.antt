@@ -111,26 +111,26 @@ module _ (rows rings sizes : List ℕ) (z n : ℕ) (at : Offsets) where
     unfolding EachRow
     each_turn P r = rw e (rw (next_row z n h) at r)
 
-    pub flat-turn :
+    pub flat_turn :
         {A : Type 0} {x : List A} (view : Row → Offsets → List A) (l next : List A) (k m : ℕ) → m ≡ k + length (view row at) → next ≡ sets l k (view row at)
         → x ≡ sets l k (flat_rows rows rings sizes view (n - z) z at) → x ≡ sets next m (flat_rows rows rings sizes view (n - (z + 1)) (z + 1) (past_row rings sizes row at))
     unfolding flat_rows
-    flat-turn view l next k m i f g =
+    flat_turn view l next k m i f g =
         g ∙ rw (next_row z n h, ← e) (sets_append l k (view row at) (flat_rows rows rings sizes view (n - (z + 1)) (z + 1) (past_row rings sizes row at)) ∙ rw (f, i))
 
-    pub length-turn :
+    pub length_turn :
         {A : Type 0} {x : ℕ} (view : Row → Offsets → List A) (k m : ℕ) → m ≡ k + length (view row at)
         → x ≡ k + length (flat_rows rows rings sizes view (n - z) z at) → x ≡ m + length (flat_rows rows rings sizes view (n - (z + 1)) (z + 1) (past_row rings sizes row at))
     unfolding flat_rows
-    length-turn view k m i g =
+    length_turn view k m i g =
         let r = flat_rows rows rings sizes view (n - (z + 1)) (z + 1) (past_row rings sizes row at) in
         g ∙ rw (next_row z n h, ← e) (omega (arith, length-append (view row at) r, i))
 
-    pub all-turn :
+    pub all_turn :
         {x : Bool} (test : Row → Offsets → Bool) → test row at ≡ true → x ≡ all_rows rows rings sizes test (n - z) z at
         → x ≡ all_rows rows rings sizes test (n - (z + 1)) (z + 1) (past_row rings sizes row at)
     unfolding all_rows
-    all-turn test f g = g ∙ rw (next_row z n h, ← e, f)
+    all_turn test f g = g ∙ rw (next_row z n h, ← e, f)
 
     pub all_stop : {x : Bool} (test : Row → Offsets → Bool) → test row at ≡ false → x ≡ all_rows rows rings sizes test (n - z) z at → x ≡ false
     unfolding all_rows

@@ -31,14 +31,14 @@ module _ (rings sizes : List ℕ) (coords : List Float) where
   pub length_areas : length (areas (pieces_of rings sizes coords)) ≡ length rings
   length_areas = length-map (pieces_of rings sizes coords) piece_area ∙ length_pieces rings sizes coords
 
-  pub areas-front :
+  pub areas_front :
       (areas₀ areas₁ : List Float) → length rings ≤ length areas₀ → areas₁ ≡ sets areas₀ 0 (areas (pieces_of rings sizes coords))
       → take (length rings) areas₁ ≡ areas (pieces_of rings sizes coords)
-  areas-front areas₀ areas₁ h e =
+  areas_front areas₀ areas₁ h e =
       rw (e, sets_written (areas (pieces_of rings sizes coords)) areas₀ (rw length_areas h)) (front_is (areas (pieces_of rings sizes coords)) areas₀ (length rings) length_areas)
 
-  pub shares-front :
+  pub shares_front :
       (count : ℕ) (front : List Float) (shares₀ shares₁ : List ℕ) → front ≡ areas (pieces_of rings sizes coords) → shares₁ ≡ written (apportion count front) shares₀
       → take (length rings) shares₁ ≡ apportion count (areas (pieces_of rings sizes coords))
-  shares-front count front shares₀ shares₁ e f =
+  shares_front count front shares₀ shares₁ e f =
       rw (f, e) (front_is (apportion count (areas (pieces_of rings sizes coords))) shares₀ (length rings) (length_apportion count _ ∙ length_areas))

@@ -10,7 +10,7 @@ use Rattle.laws.specs.Lists.{written}
 use Rattle.glyphs.specs.declared.rect.Rectangle.{Rectangle}
 use Rattle.sheet.specs.Sheet.{Placement, placement_bytes, sheet_head, sheet_of}
 use Rattle.sheet.specs.Back.{length_sheet_head}
-use Rattle.sheet.specs.Laws.{put-sheet}
+use Rattle.sheet.specs.Laws.{put_sheet}
 use Rattle.discs.specs.declared.options.GlyphOptions.{GlyphOptions}
 use Rattle.discs.specs.declared.radius.Sizing.{Sizing}
 use Rattle.discs.specs.declared.rows.Offsets.{Offsets}
@@ -24,14 +24,14 @@ flat_join f [] ys = refl
 flat_join f (x ∷ xs) ys = ap (λ (t : List _). f x ++ t) (flat_join f xs ys) ∙ sym (append_assoc (f x) (flat_map f xs) (flat_map f ys))
 
 module _ (sizing : Sizing) (options : GlyphOptions) (obstacles : List Rectangle) (s rows rings sizes : List ℕ) (coords : List Float) (quotas : List ℕ) (deepest : List Float) where
-  pub bytes-flat :
+  pub bytes_flat :
       (n z : ℕ) (at : Offsets)
       → flat_rows rows rings sizes (bytes_at sizing options obstacles s rings sizes coords quotas deepest) n z at
       ≡ flat_map placement_bytes (flat_rows rows rings sizes (placed_at sizing options obstacles s rings sizes coords quotas deepest) n z at)
   unfolding flat_rows bytes_at
-  bytes-flat zero z at = unfold flat_map in refl
-  bytes-flat (suc n) z at =
-      rw (bytes-flat n (z + 1) (past_row rings sizes (row_of rows z) at))
+  bytes_flat zero z at = unfold flat_map in refl
+  bytes_flat (suc n) z at =
+      rw (bytes_flat n (z + 1) (past_row rings sizes (row_of rows z) at))
       (sym (flat_join placement_bytes (placed_at sizing options obstacles s rings sizes coords quotas deepest (row_of rows z) at) (flat_rows rows rings sizes (placed_at sizing options obstacles s rings sizes coords quotas deepest) n (z + 1) (past_row rings sizes (row_of rows z) at))))
 
 pub sheet_long : (radius : Float) (zones : List Placement) → length (sheet_of (record { radius = radius; zones = zones })) ≡ 15 + length (flat_map placement_bytes zones)
@@ -41,12 +41,12 @@ sheet_long radius zones =
     let head = sheet_head (11 + length body) radius (length zones) in
     omega (arith, length-append head body, length_sheet_head (11 + length body) radius (length zones))
 
-pub sheet-put :
+pub sheet_put :
     (l₀ l₁ l₂ : List ℕ) (radius : Float) (zones : List Placement) (bytes : List ℕ) (at count : ℕ) → bytes ≡ flat_map placement_bytes zones → Put bytes 15 at l₀ l₁ → count ≡ length zones
     → at ≤ length l₀ → l₂ ≡ sets l₁ 0 (sheet_head (at - 4) radius count)
     → (at ≡ length (sheet_of (record { radius = radius; zones = zones }))) × (l₂ ≡ written (sheet_of (record { radius = radius; zones = zones })) l₀)
-sheet-put l₀ l₁ l₂ radius zones bytes at count b p c h e =
+sheet_put l₀ l₁ l₂ radius zones bytes at count b p c h e =
     let long = sheet_long radius zones in
     let ends : at ≡ 15 + length (flat_map placement_bytes zones) = p.ends ∙ rw b in
     let rest : at - 4 ≡ 11 + length (flat_map placement_bytes zones) = omega (arith, ends) in
-    (ends ∙ sym long, e ∙ rw (rest, c, p.put, b) (put-sheet l₀ (record { radius = radius; zones = zones }) (omega (arith, long, ends))))
+    (ends ∙ sym long, e ∙ rw (rest, c, p.put, b) (put_sheet l₀ (record { radius = radius; zones = zones }) (omega (arith, long, ends))))

@@ -39,15 +39,15 @@ never e = let z : ◌≡◌ {A = ℕ} 0 1 = cc in omega arith
 pub rest_is : {A : Type 0} (l : List A) (a : ℕ) → take (length l - a) (drop a l) ≡ drop a l
 rest_is l a = take_all (length l - a) (drop a l) (simp length-drop (omega arith))
 
-pub lies-here :
+pub lies_here :
     (rings sizes : List ℕ) (coords : List Float) (k : ℕ) → k < length rings → Laid (drop k rings) sizes coords → Lies (get_or rings k 0) sizes coords
 unfolding Laid
-lies-here rings sizes coords k h l = (rw (drop-cons rings k 0 h) at l).0
+lies_here rings sizes coords k h l = (rw (drop-cons rings k 0 h) at l).0
 
-pub ring-inside :
+pub ring_inside :
     (rings sizes : List ℕ) (coords : List Float) (k a : ℕ) → k < length rings → a ≤ length sizes → Laid (drop k rings) (drop a sizes) coords
     → a + get_or rings k 0 ≤ length sizes
-ring-inside rings sizes coords k a h i l = omega (arith, (lies-here rings (drop a sizes) coords k h l).sized, length-drop a sizes)
+ring_inside rings sizes coords k a h i l = omega (arith, (lies_here rings (drop a sizes) coords k h l).sized, length-drop a sizes)
 
 pub pieces_end : (rings sizes : List ℕ) (coords : List Float) (k : ℕ) → length rings ≤ k → pieces_of (drop k rings) sizes coords ≡ []
 unfolding pieces_of
@@ -78,11 +78,11 @@ module _ (rings sizes : List ℕ) (coords : List Float) (k a c b d : ℕ) (piece
   unfolding pieces_of
   pieces_turn = rw (drop-cons rings k 0 t.more, add-one k, next_sizes, next_coords, own_is)
 
-  pub laid-turn :
+  pub laid_turn :
       Laid (drop k rings) (drop a sizes) (drop c coords) → a ≤ length sizes
       → Here sizes coords c b piece × Laid (drop (k + 1) rings) (drop b sizes) (drop d coords)
   unfolding Laid
-  laid-turn l h =
+  laid_turn l h =
       let m = rw (drop-cons rings k 0 t.more) at l in (
         record {
           some = rw own_is (omega (arith, length-take-le (get_or rings k 0) (drop a sizes) m.0.sized, m.0.some));
@@ -92,11 +92,11 @@ module _ (rings sizes : List ℕ) (coords : List Float) (k a c b d : ℕ) (piece
         rw (add-one k, next_sizes, next_coords, own_is) m.1,
       )
 
-  pub areas-turn :
+  pub areas_turn :
       {x : List Float} (out : List Float) (v : Float) → v ≡ piece_area (piece_of piece (drop c coords))
       → x ≡ sets out k (areas (pieces_of (drop k rings) (drop a sizes) (drop c coords)))
       → x ≡ sets (set out k v) (k + 1) (areas (pieces_of (drop (k + 1) rings) (drop b sizes) (drop d coords)))
-  areas-turn out v h e = e ∙ rw (pieces_turn, ← h, add-one k)
+  areas_turn out v h e = e ∙ rw (pieces_turn, ← h, add-one k)
 
   -- the same of the searches, with the quotas
   module _ (options : GlyphOptions) (left_in : Bool) (quotas : List ℕ) (q : k < length quotas) (found : Deepest) (f : found ≡ found_for options left_in (piece_of piece (drop c coords)) (get_or quotas k 0)) where
@@ -106,22 +106,22 @@ module _ (rings sizes : List ℕ) (coords : List Float) (k a c b d : ℕ) (piece
     unfolding found_in
     found_turn = rw (pieces_turn, drop-cons quotas k 0 q, f, add-one k)
 
-    pub fits-turn :
+    pub fits_turn :
         {x : Bool} → had_room found ≡ true → x ≡ all had_room (found_in options left_in (pieces_of (drop k rings) (drop a sizes) (drop c coords)) (drop k quotas))
         → x ≡ all had_room (found_in options left_in (pieces_of (drop (k + 1) rings) (drop b sizes) (drop d coords)) (drop (k + 1) quotas))
     unfolding all
-    fits-turn h e = e ∙ rw (found_turn, h)
+    fits_turn h e = e ∙ rw (found_turn, h)
 
-    pub fits-stop :
+    pub fits_stop :
         {x : Bool} → had_room found ≡ false → x ≡ all had_room (found_in options left_in (pieces_of (drop k rings) (drop a sizes) (drop c coords)) (drop k quotas)) → x ≡ false
     unfolding all
-    fits-stop h e = e ∙ rw (found_turn, h)
+    fits_stop h e = e ∙ rw (found_turn, h)
 
-    pub three-turn :
+    pub three_turn :
         {x : List Float} (deepest : List Float) (at : ℕ) → x ≡ sets deepest at (all_three (found_in options left_in (pieces_of (drop k rings) (drop a sizes) (drop c coords)) (drop k quotas)))
         → x ≡ sets (sets deepest at (three_of found)) (at + 3) (all_three (found_in options left_in (pieces_of (drop (k + 1) rings) (drop b sizes) (drop d coords)) (drop (k + 1) quotas)))
     unfolding flat_map
-    three-turn deepest at e =
+    three_turn deepest at e =
         let rest = found_in options left_in (pieces_of (drop (k + 1) rings) (drop b sizes) (drop d coords)) (drop (k + 1) quotas) in
         e ∙ rw found_turn (sets_append deepest at (three_of found) (all_three rest) ∙ rw (length_three found))
 
@@ -134,7 +134,7 @@ module _ (rings sizes : List ℕ) (coords : List Float) (k a c : ℕ) (h : k < l
   turn_to d e = record { more = h; ring = refl; own = refl; coord = e }
 
   pub here : a ≤ length sizes → Laid (drop k rings) (drop a sizes) (drop c coords) → Here sizes coords c (a + get_or rings k 0) own_sizes
-  here i l = (laid-turn rings sizes coords k a c (a + get_or rings k 0) (c + sum own_sizes * 2) own_sizes (turn_to (c + sum own_sizes * 2) refl) l i).0
+  here i l = (laid_turn rings sizes coords k a c (a + get_or rings k 0) (c + sum own_sizes * 2) own_sizes (turn_to (c + sum own_sizes * 2) refl) l i).0
 
 -- no piece is left
 module _ (options : GlyphOptions) (left_in : Bool) (rings sizes : List ℕ) (coords : List Float) (quotas : List ℕ) (k : ℕ) (h : length rings ≤ k) where

@@ -45,26 +45,26 @@ use Rattle.plan.specs.Rows.{flat_rows}
 use Rattle.plan.specs.Left.{Left}
 use Rattle.plan.specs.Placing.{place_for, placement_for, placed_at}
 use Rattle.plan.specs.Sized.{ceiling_for, sizing_for, size_of}
-use Rattle.plan.specs.Own.{found_of, own_of, Filled, handed-zones}
+use Rattle.plan.specs.Own.{found_of, own_of, Filled, handed_zones}
 use Rattle.plan.specs.Packing.{packs_at, packing_own}
-use Rattle.plan.specs.Placements.{placed_of, place-own, placed-are}
+use Rattle.plan.specs.Placements.{placed_of, place_own, placed_are}
 use Rattle.plan.specs.Made.{Roomy, ceiling_is, sizing_is}
 
 -- ---- a zone put at the size of a job
 
 -- where there is a size, the packing is the zone's own
-put-own :
+put_own :
     (options : GlyphOptions) (fits : List Rectangle → Float → Bool) (pillars obstacles : List Rectangle) (zone : Zone) → is_left_in zone ≡ true → all had_room (found_of options zone) ≡ true
     → (radius : Radius) → options.radius ≡ radius → (top : Chosen)
     → placement_for (size_for fits pillars radius top) options obstacles (own_of options zone) ≡ placement_of (placed_of (size_for fits pillars radius top) options obstacles zone)
 unfolding size_for
-put-own options fits pillars obstacles zone l h = go
+put_own options fits pillars obstacles zone l h = go
   where
     none : placement_for Unplaced options obstacles (own_of options zone) ≡ placement_of (placed_of Unplaced options obstacles zone)
     none = unfold placement_for placement_of placed_of place_for in refl
 
     some : (size : Size) → packs_at options.radius ≡ true → placement_for (At size) options obstacles (own_of options zone) ≡ placement_of (placed_of (At size) options obstacles zone)
-    some size p = place-own (At size) options obstacles zone (packing_own options zone p l h)
+    some size p = place_own (At size) options obstacles zone (packing_own options zone p l h)
 
     stated :
         (r : Float) → options.radius ≡ Stated r → (b : Bool) → (r >ᶠ 0ᶠ && is_finite r) ≡ b → (size : Size)
@@ -118,11 +118,11 @@ module _ (r : Float) (s : Shares 0 1048576 r) where
       go zero h i = i ∙ share_none
       go (suc n) h i = absurd (never (sym e ∙ rw i (share_some n h)))
 
-  stated-size :
+  stated_size :
       (fits : List Rectangle → Float → Bool) (pillars : List Rectangle) (top : Chosen)
       → ◌≡◌ {A = Size} (size_of (size_for fits pillars (Stated r) top)) (record { radius = max r 0ᶠ; free_trials = 0; obstacle_trials = 0 })
   unfolding size_for size_of
-  stated-size fits pillars top = rw (finite_is r stated_num, max_zero_same r stated_num stated_nonneg) (go (r >ᶠ 0ᶠ) refl)
+  stated_size fits pillars top = rw (finite_is r stated_num, max_zero_same r stated_num stated_nonneg) (go (r >ᶠ 0ᶠ) refl)
     where
       go : (b : Bool) → r >ᶠ 0ᶠ ≡ b → ◌≡◌ {A = Size} (size_of (cond (b && true) (At (record { radius = r; free_trials = 0; obstacle_trials = 0 })) Unplaced)) (record { radius = r; free_trials = 0; obstacle_trials = 0 })
       go true e = unfold size_of in refl
@@ -146,19 +146,19 @@ module _ (options : GlyphOptions) (given : List Rectangle) (zones : List Zone) w
   packed Unplaced = refl
   packed (At size) = refl
 
-  size-alone :
+  size_alone :
       (radius : Radius) → RadiusKnown radius → (fits : List Rectangle → Float → Bool) (gap precision : Float)
       → ◌≡◌ {A = Size} (size_of (size_for fits (sanitize_obstacles given) radius (analytic_r_hi room [] gap precision))) (record { radius = stated_radius room source options given zones radius; free_trials = 0; obstacle_trials = 0 })
-  size-alone Auto k fits gap precision =
+  size_alone Auto k fits gap precision =
       unfold analytic_r_hi if_positive size_for size_of in rw (endless, max_zero_same 0ᶠ zero_num (rw zero_val (omega arith)))
-  size-alone (Stated r) k fits gap precision = stated-size r k fits (sanitize_obstacles given) (analytic_r_hi room [] gap precision)
+  size_alone (Stated r) k fits gap precision = stated_size r k fits (sanitize_obstacles given) (analytic_r_hi room [] gap precision)
 
   alone : RadiusKnown options.radius → work_of zones ≡ []
       → ◌≡◌ {A = Placements} (record { radius = stated_radius room source options given zones options.radius; free_trials = 0; obstacle_trials = 0; zones = [] }) (made (sizing room source options given zones))
   unfolding made
   alone k e =
       let n : ◌≡◌ {A = Size} (size_of (sizing room source options given zones)) (record { radius = stated_radius room source options given zones options.radius; free_trials = 0; obstacle_trials = 0 }) =
-      unfold sizing in rw e (size-alone options.radius k _ _ _) in
+      unfold sizing in rw e (size_alone options.radius k _ _ _) in
       rw (n, e)
 
   glyphs_are : RadiusKnown options.radius → place_glyphs room source options given zones ≡ made (sizing room source options given zones)
@@ -190,7 +190,7 @@ module _
   put = flat_rows rows rings sizes (placed_at sized job.options (sanitize_obstacles (rectangles job.obstacles)) s rings sizes coords shares deepest) (length job.zones) 0 start
 
   work_is : work_in s (length job.zones) rows rings sizes coords shares deepest ≡ handed_work (map (own_of job.options) job.zones)
-  work_is = ap handed_work (handed-zones job.options s rows rings sizes coords shares deepest job.zones 0 start l f)
+  work_is = ap handed_work (handed_zones job.options s rows rings sizes coords shares deepest job.zones 0 start l f)
 
   size_is : sized ≡ sizing room source job.options given job.zones
   size_is = ap (λ (hs : List Handed). sizing_for job.options (sanitize_obstacles given) hs) work_is ∙ sizing_is job.options job.zones r given
@@ -206,13 +206,13 @@ module _
 
   put_is : put ≡ map placement_of (map (placed_of sized job.options (sanitize_obstacles given)) (work_of job.zones))
   put_is =
-      placed-are sized job.options (sanitize_obstacles given) s rows rings sizes coords shares deepest own job.zones 0 start l f r
+      placed_are sized job.options (sanitize_obstacles given) s rows rings sizes coords shares deepest own job.zones 0 start l f r
       ∙ sym (map-map placement_of (placed_of sized job.options (sanitize_obstacles given)) (work_of job.zones))
     where
       own :
           (zone : Zone) → is_left_in zone ≡ true → all had_room (found_of job.options zone) ≡ true
           → placement_for sized job.options (sanitize_obstacles given) (own_of job.options zone) ≡ placement_of (placed_of sized job.options (sanitize_obstacles given) zone)
-      own zone i h = unfold sizing_for in put-own job.options _ (sanitize_obstacles given) (sanitize_obstacles given) zone i h job.options.radius refl _
+      own zone i h = unfold sizing_for in put_own job.options _ (sanitize_obstacles given) (sanitize_obstacles given) zone i h job.options.radius refl _
 
   -- the sheet
   pub sheet_is : ◌≡◌ {A = Sheet} (record { radius = (size_of sized).radius; zones = put }) (sheet_for (placements_of job))

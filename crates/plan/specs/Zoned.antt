@@ -25,7 +25,7 @@ use Rattle.plan.specs.Rows.{Readable, flat_rows, all_rows, shares_at, fits_at, t
 use Rattle.plan.specs.Found.{Searched}
 use Rattle.plan.specs.Placing.{placed_at, Fair}
 use Rattle.plan.specs.Sized.{ceiling_for, sizing_for, refused_by, answer_to, Planned}
-use Rattle.plan.specs.Left.{Left, all-readable}
+use Rattle.plan.specs.Left.{Left, all_readable}
 use Rattle.plan.specs.Own.{found_of, Filled}
 use Rattle.plan.specs.Read.{search_fault_lem}
 use Rattle.plan.specs.Put.{fits_put, filled_put}
@@ -41,14 +41,14 @@ same_answer a b free free' walled walled' e f w = rw (e, f, w)
 
 -- ---- the slices
 
-pub shares-long :
+pub shares_long :
     (n : ℕ) (rows rings sizes : List ℕ) (coords : List Float) (shares₀ shares : List ℕ) → shares ≡ sets shares₀ 0 (flat_rows rows rings sizes (shares_at rings sizes coords) n 0 start) → length shares ≡ length shares₀
-shares-long n rows rings sizes coords shares₀ shares e = ap length e ∙ length-sets shares₀ 0 (flat_rows rows rings sizes (shares_at rings sizes coords) n 0 start)
+shares_long n rows rings sizes coords shares₀ shares e = ap length e ∙ length-sets shares₀ 0 (flat_rows rows rings sizes (shares_at rings sizes coords) n 0 start)
 
-pub pillars-lend :
+pub pillars_lend :
     (m : ℕ) (obstacles pillars near second flags spots : List Float) → m ≤ length obstacles → m ≤ length pillars → length obstacles ≤ 256 → 256 ≤ length near → length second ≡ 8000 → length flags ≡ 2000 → 4000 ≤ length spots
     → Lends (take m pillars) near second flags spots
-pillars-lend m obstacles pillars near second flags spots h i few a b c d = record { room_near = omega (arith, length-take-le m pillars i, h, few, a); room_second = omega (arith, b); room_flags = omega (arith, c); room_spots = d }
+pillars_lend m obstacles pillars near second flags spots h i few a b c d = record { room_near = omega (arith, length-take-le m pillars i, h, few, a); room_second = omega (arith, b); room_flags = omega (arith, c); room_spots = d }
 
 -- ---- a job each of whose searches had room, planned over its slices
 
@@ -60,11 +60,11 @@ module _
       rw (search_fault_lem job)
       (row_true (all (λ (zone : Zone). all had_room (found_of job.options zone)) job.zones) true 15 (ceiling_fault job) (sym room) refl (low_is s rows rings sizes coords shares deepest job k room l f))
 
-  planned-job :
+  planned_job :
       (r : Answer) (sheet sheet' : List ℕ)
       → Planned (low_fault (ceiling_for job.options (work_in s (length job.zones) rows rings sizes coords shares deepest) job.options.radius)) (sized s rows rings sizes coords shares deepest job k room l f) (put s rows rings sizes coords shares deepest job k room l f) r sheet sheet'
       → Answered (search_fault job or_else ceiling_fault job) job r sheet sheet'
-  planned-job r sheet sheet' p =
+  planned_job r sheet sheet' p =
       let same = sheet_is s rows rings sizes coords shares deepest job k room l f in
       record {
         refused = λ (e : search_fault job or_else ceiling_fault job ≡ 0 → ⊥). let g = p.refused (λ z. e (sym number_is ∙ z)) in (g.0 ∙ ap refused_by number_is, g.1);
@@ -81,7 +81,7 @@ module _
     (s : List ℕ) (options : GlyphOptions) (obstacles : List Float) (n : ℕ) (rows rings sizes : List ℕ) (coords : List Float)
     (read : ReadIn s options obstacles n rows rings sizes coords) where
   pub rows_readable : EachRow rows rings sizes (Readable rings sizes coords) n 0 start
-  rows_readable = rw read.count (all-readable s rows rings sizes coords (job_of s).zones 0 start read.left)
+  rows_readable = rw read.count (all_readable s rows rings sizes coords (job_of s).zones 0 start read.left)
 
   -- its quotas are put, and its searches made
   module _
@@ -114,11 +114,11 @@ module _
       zones_fair pillars sizing = rw (read.count, read.choices) (all_fair (job_of s).options s rows rings sizes coords shares deepest sizing pillars (job_of s).zones 0 start read.left filled)
 
       -- row 16, and the sheet
-      pub planned-zones :
+      pub planned_zones :
           (pillars : List Rectangle) → pillars ≡ sanitize_obstacles (rectangles obstacles) → (r : Answer) (sheet sheet' : List ℕ)
           → Planned (low_fault (ceiling_for options (work_in s n rows rings sizes coords shares deepest) options.radius)) (sizing_for options pillars (work_in s n rows rings sizes coords shares deepest))
           (flat_rows rows rings sizes (placed_at (sizing_for options pillars (work_in s n rows rings sizes coords shares deepest)) options pillars s rings sizes coords shares deepest) n 0 start) r sheet sheet'
           → Answered (search_fault (job_of s) or_else ceiling_fault (job_of s)) (job_of s) r sheet sheet'
-      planned-zones pillars same r sheet sheet' p =
-          planned-job s rows rings sizes coords shares deepest (job_of s) (job_known s read.whole).options.radius (sym fits_own ∙ roomy) read.left filled r sheet sheet'
+      planned_zones pillars same r sheet sheet' p =
+          planned_job s rows rings sizes coords shares deepest (job_of s) (job_known s read.whole).options.radius (sym fits_own ∙ roomy) read.left filled r sheet sheet'
           (rw (same, read.pillars, read.count, read.choices) at p)

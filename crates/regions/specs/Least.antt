@@ -85,10 +85,10 @@ pub rings_good : (px py b : Float) (rings : List Ring) → Good b → Good (fold
 rings_good px py b [] g = g
 rings_good px py b (ring ∷ rings) g = rings_good px py (least_of_ring px py b ring) rings (ring_good px py b ring g)
 
-rings-root :
+rings_root :
     (px py b : Float) (rings : List Ring) → Good b → foldl (best_of_ring px py) (sqrt b) rings ≡ sqrt (foldl (least_of_ring px py) b rings)
-rings-root px py b [] g = refl
-rings-root px py b (ring ∷ rings) g = rw (ring_root px py b ring g) (rings-root px py (least_of_ring px py b ring) rings (ring_good px py b ring g))
+rings_root px py b [] g = refl
+rings_root px py b (ring ∷ rings) g = rw (ring_root px py b ring g) (rings_root px py (least_of_ring px py b ring) rings (ring_good px py b ring g))
 
 pub ∞-good : Good ∞
 unfolding of_bits lt is_nan
@@ -100,7 +100,7 @@ unfolding root_of of_bits
 
 pub least_root : (px py : Float) (rings : List Ring) → min_dist_to_rings px py rings ≡ sqrt (least_of_rings px py rings)
 unfolding min_dist_to_rings least_of_rings
-least_root px py rings = ap (λ (b : Float). foldl (best_of_ring px py) b rings) (sym ∞-root) ∙ rings-root px py ∞ rings ∞-good
+least_root px py rings = ap (λ (b : Float). foldl (best_of_ring px py) b rings) (sym ∞-root) ∙ rings_root px py ∞ rings ∞-good
 
 -- ---- the least never rises
 
@@ -194,11 +194,11 @@ module _ (px py : Float) (ring : Ring) (n h : ℕ) where
       ∙ nested (square_at px py ring n (h + k)) (least_from px py ring n h k) (least_after px py b ring n h) (from_good k).number
 
 -- the halves of a ring, or any two parts
-pub of-halves :
+pub of_halves :
     (px py b : Float) (ring : Ring) (h : ℕ) → 2 ≤ vertices ring → h ≤ vertices ring
     → closer (least_from px py ring (vertices ring) h (vertices ring - h)) (least_after px py b ring (vertices ring) h) ≡ least_of_ring px py b ring
 unfolding least_of_ring
-of-halves px py b ring h p q =
+of_halves px py b ring h p q =
     let n = vertices ring in
     let e : h + (n - h) ≡ n = omega arith in
     rw (le-ltb n 2 p) (sym (in_two_parts px py ring n h b (n - h)) ∙ ap (least_after px py b ring n) e)

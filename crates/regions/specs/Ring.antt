@@ -44,12 +44,12 @@ holes (ring ∷ rings) = rings
 
 -- ---- laws
 
-pub rings-step :
+pub rings_step :
     (a : ℕ) (sizes : List ℕ) (coords : List Float) (k : ℕ) → k < length sizes
     → rings_from a (drop k sizes) coords
     ≡ part coords a (get_or sizes k 0) ∷ rings_from (a + get_or sizes k 0) (drop (k + 1) sizes) coords
 unfolding rings_from
-rings-step a sizes coords k h = rw (add-one, drop-cons sizes k 0)
+rings_step a sizes coords k h = rw (add-one, drop-cons sizes k 0)
 
 pub rings_end : (a : ℕ) (sizes : List ℕ) (coords : List Float) (k : ℕ) → length sizes ≤ k → rings_from a (drop k sizes) coords ≡ []
 unfolding rings_from
@@ -59,12 +59,12 @@ pub sum_step : (sizes : List ℕ) (k : ℕ) → k < length sizes → sum (drop k
 unfolding sum
 sum_step sizes k h = rw (add-one, drop-cons sizes k 0)
 
-pub first-ring :
+pub first_ring :
     (sizes : List ℕ) (coords : List Float) → 0 < length sizes
     → piece_of sizes coords ≡ part coords 0 (get_or sizes 0 0) ∷ rings_from (get_or sizes 0 0) (drop 1 sizes) coords
 unfolding rings_from
-first-ring [] coords h = absurd (omega arith)
-first-ring (n ∷ sizes) coords h = rw zero-add
+first_ring [] coords h = absurd (omega arith)
+first_ring (n ∷ sizes) coords h = rw zero-add
 
 pub first_sum : (sizes : List ℕ) → 0 < length sizes → sum sizes ≡ get_or sizes 0 0 + sum (drop 1 sizes)
 unfolding sum
@@ -73,13 +73,13 @@ first_sum (n ∷ sizes) h = refl
 
 pub outer_is : (sizes : List ℕ) (coords : List Float) → 0 < length sizes → outer (piece_of sizes coords) ≡ part coords 0 (get_or sizes 0 0)
 unfolding outer
-outer_is sizes coords h = rw (first-ring sizes coords h)
+outer_is sizes coords h = rw (first_ring sizes coords h)
 
 -- the outer ring has as many vertices as its size says
-pub outer-vertices :
+pub outer_vertices :
     (sizes : List ℕ) (coords : List Float) → 0 < length sizes → sum sizes * 2 ≤ length coords
     → vertices (outer (piece_of sizes coords)) ≡ get_or sizes 0 0
 unfolding part
-outer-vertices sizes coords h r =
+outer_vertices sizes coords h r =
     let s = first_sum sizes h in
     rw (outer_is sizes coords h) (simp (length-take, length-drop) (omega arith))

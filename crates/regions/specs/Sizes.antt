@@ -83,11 +83,11 @@ along_sized dot len2 p q = go (0ᶠ <ᶠ len2) refl
     go false e = wider (omega arith) zero_sized
 
 -- ---- the square of a distance to an edge
-pub edge-sized :
+pub edge_sized :
     (px py ax ay bx by : Float) → Sized px 15360 → Sized py 15360 → Sized ax 1024 → Sized ay 1024 → Sized bx 1024 → Sized by 1024
     → Sized (edge_square px py ax ay bx by) 679477248
 unfolding edge_square
-edge-sized px py ax ay bx by hx hy a₁ a₂ b₁ b₂ =
+edge_sized px py ax ay bx by hx hy a₁ a₂ b₁ b₂ =
     let dx : Sized (bx -ᶠ ax) 2048 = sub_sized b₁ a₁ (lit< tt) in
     let dy : Sized (by -ᶠ ay) 2048 = sub_sized b₂ a₂ (lit< tt) in
     let len2 : Sized ((bx -ᶠ ax) *ᶠ (bx -ᶠ ax) +ᶠ (by -ᶠ ay) *ᶠ (by -ᶠ ay)) 8388608 = add_sized (mul_sized dx dx (lit< tt)) (mul_sized dy dy (lit< tt)) (lit< tt) in
@@ -110,7 +110,7 @@ unfolding next
 first_square px py ring hx hy b =
     let z : 0 < vertices ring = omega (arith, b.two) in
     let o : 1 < vertices ring = omega (arith, b.two) in
-    rw (lt-ltb (0 + 1) (vertices ring) o) (edge-sized px py _ _ _ _ hx hy (b.xs 0 z) (b.ys 0 z) (b.xs 1 o) (b.ys 1 o))
+    rw (lt-ltb (0 + 1) (vertices ring) o) (edge_sized px py _ _ _ _ hx hy (b.xs 0 z) (b.ys 0 z) (b.xs 1 o) (b.ys 1 o))
 
 pub sized_number : {x : Float} {k : ℕ} → Sized x k → Number x
 sized_number {x} s = go x s.num.fine

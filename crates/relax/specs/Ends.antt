@@ -12,7 +12,7 @@ use Rattle.regions.specs.Unrooted.{rooted}
 use Rattle.relax.specs.declared.Spreading.{Spreading}
 use Rattle.relax.specs.Scatter.{Scatter, idle, around, relax_sweeps, relax_scatter, clearances_of}
 use Rattle.relax.specs.Moves.{scatter_of}
-use Rattle.relax.specs.Kept.{kept-clearances}
+use Rattle.relax.specs.Kept.{kept_clearances}
 
 module _ (numbers : Spreading) (points : List Point) (piece : Piece) (obstacles : List Rectangle) (spacing inset : Float) where
   when_idle : idle (length points) spacing ≡ true → relax_scatter numbers points piece obstacles spacing inset ≡ points
@@ -26,24 +26,24 @@ module _ (numbers : Spreading) (points : List Point) (piece : Piece) (obstacles 
   unfolding relax_scatter swept
   when_busy h = rw h
 
-  pub idle-end :
+  pub idle_end :
       (spots : List Float) (n : ℕ) → points ≡ spots_of spots → length spots ≡ n * 2 → idle (length points) spacing ≡ true
       → (spots ≡ flat (relax_scatter numbers points piece obstacles spacing inset))
       × (clearances_of piece points ≡ clearances_of piece (relax_scatter numbers points piece obstacles spacing inset))
-  idle-end spots n e k h = (rw (when_idle h, e, flat_spots spots n k), rw (when_idle h))
+  idle_end spots n e k h = (rw (when_idle h, e, flat_spots spots n k), rw (when_idle h))
 
-  pub busy-end :
+  pub busy_end :
       (spots unrooted : List Float) (n : ℕ) → length spots ≡ n * 2 → idle (length points) spacing ≡ false
       → scatter_of spots unrooted
       ≡ relax_sweeps numbers (around numbers points piece obstacles spacing inset) (record { points = points; clearance = clearances_of piece points })
       → (spots ≡ flat (relax_scatter numbers points piece obstacles spacing inset))
       × (map rooted unrooted ≡ clearances_of piece (relax_scatter numbers points piece obstacles spacing inset))
   unfolding swept
-  busy-end spots unrooted n k h e =
+  busy_end spots unrooted n k h e =
       let p : spots_of spots ≡ swept.points = ap (λ (s : Scatter). s.points) e in
       let c : map rooted unrooted ≡ swept.clearance = ap (λ (s : Scatter). s.clearance) e in (
         sym (flat_spots spots n k) ∙ ap flat p ∙ rw (when_busy h),
         c
-            ∙ kept-clearances numbers (around numbers points piece obstacles spacing inset) (record { points = points; clearance = clearances_of piece points }) refl
+            ∙ kept_clearances numbers (around numbers points piece obstacles spacing inset) (record { points = points; clearance = clearances_of piece points }) refl
             ∙ rw (when_busy h),
       )

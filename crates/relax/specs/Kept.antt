@@ -35,43 +35,43 @@ use Rattle.relax.specs.Scatter.{
 }
 
 -- what a step keeps, a fold keeps
-fold-keeps :
+fold_keeps :
     {A B : Type 0} (P : B → Type 0) (f : B → A → B) → ((b : B) (a : A) → P b → P (f b a)) → (b : B) (l : List A) → P b → P (foldl f b l)
-fold-keeps P f k b [] h = h
-fold-keeps P f k b (a ∷ l) h = fold-keeps P f k (f b a) l (k b a h)
+fold_keeps P f k b [] h = h
+fold_keeps P f k b (a ∷ l) h = fold_keeps P f k (f b a) l (k b a h)
 
 -- What holds of a scatter, and holds again when a mark is moved with the clearance of its new place, holds after every step.
 module _ (e : Surroundings) (P : Scatter → Type 0)
     (again : (s : Scatter) (i : ℕ) (p : Point) → P s → P (moved s i p (signed_clearance p.x p.y e.piece))) where
-  keeps-answer :
+  keeps_answer :
       (s : Scatter) (i : ℕ) (p : Point) (a b c : Bool) (o : Scatter) → P s → P o
       → P (settle s i p (cond a Refused (cond b Refused (cond c (Clear (signed_clearance p.x p.y e.piece)) Refused))) o)
   unfolding settle
-  keeps-answer s i p true b c o h k = k
-  keeps-answer s i p false true c o h k = k
-  keeps-answer s i p false false true o h k = again s i p h
-  keeps-answer s i p false false false o h k = k
+  keeps_answer s i p true b c o h k = k
+  keeps_answer s i p false true c o h k = k
+  keeps_answer s i p false false true o h k = again s i p h
+  keeps_answer s i p false false false o h k = k
 
-  keeps-accepted :
+  keeps_accepted :
       (s : Scatter) (i : ℕ) (p : Point) (honoring : Bool) (o : Scatter) → P s → P o
       → P (settle s i p (accepts e.field e.piece e.obstacles p i s.points honoring) o)
   unfolding accepts
-  keeps-accepted s i p honoring o h k =
+  keeps_accepted s i p honoring o h k =
       let field = e.field in
-      keeps-answer s i p (signed_clearance p.x p.y e.piece <ᶠ field.inset)
+      keeps_answer s i p (signed_clearance p.x p.y e.piece <ᶠ field.inset)
       (honoring && not (clear_of_obstacles p.x p.y e.obstacles field.inset))
       (clear_of_others p.x p.y (field.spacing *ᶠ field.spacing) i 0 s.points)
       o
       h
       k
 
-  keeps-try :
+  keeps_try :
       (i : ℕ) (p : Point) (ux uy : Float) (tries : ℕ) (step : Float) (s : Scatter) → P s → P (try_step e i p ux uy tries step s)
   unfolding try_step
-  keeps-try i p ux uy zero step s h = h
-  keeps-try i p ux uy (suc tries) step s h =
-      keeps-accepted s i (stepped p ux uy step) (get_or e.honoring i false) (try_step e i p ux uy tries (step *ᶠ ½ᶠ) s) h
-      (keeps-try i p ux uy tries (step *ᶠ ½ᶠ) s h)
+  keeps_try i p ux uy zero step s h = h
+  keeps_try i p ux uy (suc tries) step s h =
+      keeps_accepted s i (stepped p ux uy step) (get_or e.honoring i false) (try_step e i p ux uy tries (step *ᶠ ½ᶠ) s) h
+      (keeps_try i p ux uy tries (step *ᶠ ½ᶠ) s h)
 
   keeps_cond : (b : Bool) (s t : Scatter) → P s → P t → P (cond b s t)
   keeps_cond true s t h k = h
@@ -87,24 +87,24 @@ module _ (e : Surroundings) (P : Scatter → Type 0)
       let tries = suc numbers.backtracks in
       let step = maxStep *ᶠ min magnitude 1ᶠ in
       keeps_cond (not (is_finite magnitude) || magnitude ≤ᶠ 0ᶠ) s (try_step e i (at s.points i) ux uy tries step s) h
-      (keeps-try i (at s.points i) ux uy tries step s h)
+      (keeps_try i (at s.points i) ux uy tries step s h)
 
   keeps_sweep : (numbers : Spreading) (s : Scatter) (sweep : ℕ) → P s → P (relax_sweep numbers e s sweep)
   unfolding relax_sweep
   keeps_sweep numbers s sweep h =
       let maxStep = max_step_of numbers e.field.spacing sweep in
-      fold-keeps P (relax_point numbers e maxStep) (keeps_point numbers maxStep) s (up_to (length s.points)) h
+      fold_keeps P (relax_point numbers e maxStep) (keeps_point numbers maxStep) s (up_to (length s.points)) h
 
   keeps_sweeps : (numbers : Spreading) (s : Scatter) → P s → P (relax_sweeps numbers e s)
   unfolding relax_sweeps
-  keeps_sweeps numbers s h = fold-keeps P (relax_sweep numbers e) (keeps_sweep numbers) s (up_to numbers.sweeps) h
+  keeps_sweeps numbers s h = fold_keeps P (relax_sweep numbers e) (keeps_sweep numbers) s (up_to numbers.sweeps) h
 
 -- the cached clearance is the clearance of the place
-pub kept-clearances :
+pub kept_clearances :
     (numbers : Spreading) (e : Surroundings) (s : Scatter) → s.clearance ≡ clearances_of e.piece s.points
     → (relax_sweeps numbers e s).clearance ≡ clearances_of e.piece (relax_sweeps numbers e s).points
 unfolding clearances_of
-kept-clearances numbers e s h =
+kept_clearances numbers e s h =
     keeps_sweeps e (λ (t : Scatter). t.clearance ≡ clearances_of e.piece t.points) (λ t i p k. rw (k, map_set)) numbers s h
 
 kept_count : (numbers : Spreading) (e : Surroundings) (s : Scatter) → length (relax_sweeps numbers e s).points ≡ length s.points
@@ -116,11 +116,11 @@ length_cond true x y h = refl
 length_cond false x y h = h
 
 -- no mark comes or goes
-pub length-relaxed :
+pub length_relaxed :
     (numbers : Spreading) (points : List Point) (piece : Piece) (obstacles : List Rectangle) (spacing inset : Float)
     → length (relax_scatter numbers points piece obstacles spacing inset) ≡ length points
 unfolding relax_scatter
-length-relaxed numbers points piece obstacles spacing inset =
+length_relaxed numbers points piece obstacles spacing inset =
     let e : Surroundings = around numbers points piece obstacles spacing inset in
     let s : Scatter = record { points = points; clearance = clearances_of piece points } in
     length_cond (idle (length points) spacing) points (relax_sweeps numbers e s).points (kept_count numbers e s)

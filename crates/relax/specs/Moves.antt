@@ -74,28 +74,28 @@ pub flag_at : (flags : List Float) (i : ℕ) → i < length flags → get_or (fl
 unfolding flags_of
 flag_at flags i h = get_d_map (λ (x : Float). x >ᶠ 0ᶠ) flags i nan false h
 
-settle-move :
+settle_move :
     (s : Scatter) (i : ℕ) (candidate : Point) (a : Acceptance) (m : Move)
     → settle s i candidate a (settled s i m) ≡ settled s i (or_else candidate a m)
 unfolding settle settled or_else
-settle-move s i candidate (Clear c) m = refl
-settle-move s i candidate Refused m = refl
+settle_move s i candidate (Clear c) m = refl
+settle_move s i candidate Refused m = refl
 
-try-step :
+try_step_lem :
     (e : Surroundings) (i : ℕ) (s : Scatter) (towards : Force) (tries : ℕ) (step : Float)
     → try_step e i (at s.points i) towards.x towards.y tries step s
     ≡ settled s i (first_accepted e.field e.piece e.obstacles i s.points (get_or e.honoring i false) towards tries step)
 unfolding try_step first_accepted settled
-try-step e i s towards zero step = refl
-try-step e i s towards (suc tries) step =
-    rw (try-step e i s towards tries (step *ᶠ ½ᶠ)) (settle-move s i _ _ _)
+try_step_lem e i s towards zero step = refl
+try_step_lem e i s towards (suc tries) step =
+    rw (try_step_lem e i s towards tries (step *ᶠ ½ᶠ)) (settle_move s i _ _ _)
 
 settled_cond : (s : Scatter) (i : ℕ) (b : Bool) (m : Move) → cond b s (settled s i m) ≡ settled s i (cond b Stay m)
 unfolding settled
 settled_cond s i true m = refl
 settled_cond s i false m = refl
 
-pub relax-point :
+pub relax_point_lem :
     (numbers : Spreading) (e : Surroundings) (maxStep : Float) (s : Scatter) (i : ℕ)
     → relax_point numbers e maxStep s i
     ≡ settled s i
@@ -104,14 +104,14 @@ pub relax-point :
     (suc numbers.backtracks)
     maxStep)
 unfolding relax_point pushed_to
-relax-point numbers e maxStep s i =
+relax_point_lem numbers e maxStep s i =
     let f = force_on e.field e.piece i s.points (get_or s.clearance i nan) in
     let magnitude = hypot f.x f.y in
     let towards : Force = record { x = f.x /ᶠ magnitude; y = f.y /ᶠ magnitude } in
     let step = maxStep *ᶠ min magnitude 1ᶠ in
     let tries = suc numbers.backtracks in
     let still = not (is_finite magnitude) || magnitude ≤ᶠ 0ᶠ in
-    ap (cond still s) (try-step e i s towards tries step)
+    ap (cond still s) (try_step_lem e i s towards tries step)
     ∙ settled_cond s i still (first_accepted e.field e.piece e.obstacles i s.points (get_or e.honoring i false) towards tries step)
 
 -- one try of the mark i of a list of coordinates, which stands at p
@@ -120,19 +120,19 @@ module _ (field : Field) (piece : Piece) (obstacles : List Rectangle) (i : ℕ) 
     stands : at (spots_of spots) i ≡ p
     stands = spots_at_lem spots i (record { x = nan; y = nan }) within ∙ sym e
 
-    pub first-refused :
+    pub first_refused :
         accepts field piece obstacles (stepped p towards.x towards.y step) i (spots_of spots) honoring ≡ Refused
         → first_accepted field piece obstacles i (spots_of spots) honoring towards (suc tries) step
         ≡ first_accepted field piece obstacles i (spots_of spots) honoring towards tries (step *ᶠ ½ᶠ)
     unfolding first_accepted or_else
-    first-refused h = rw (stands, h)
+    first_refused h = rw (stands, h)
 
-    pub first-clear :
+    pub first_clear :
         (c : Float) → accepts field piece obstacles (stepped p towards.x towards.y step) i (spots_of spots) honoring ≡ Clear c
         → first_accepted field piece obstacles i (spots_of spots) honoring towards (suc tries) step
         ≡ To (p.x +ᶠ towards.x *ᶠ step) (p.y +ᶠ towards.y *ᶠ step) c
     unfolding first_accepted or_else
-    first-clear c h = rw (stands, h)
+    first_clear c h = rw (stands, h)
 
   pub none_accepted : (step : Float) → first_accepted field piece obstacles i (spots_of spots) honoring towards zero step ≡ Stay
   unfolding first_accepted

@@ -45,9 +45,9 @@ module _ (g : Point → Float) (spots l : List Float) where
       let n : i < length spots / 2 = rw length_spots at k in
       sym (get_d_map g (spots_of spots) i (spot_at spots i) nan k ∙ ap g (spots_at_lem spots i (spot_at spots i) n))
 
-  noted-marks :
+  noted_marks :
       length spots ≡ length l * 2 → written (tabulate (λ (i : ℕ). g (spot_at spots i)) (length l)) l ≡ map g (spots_of spots)
-  noted-marks e =
+  noted_marks e =
       let n : length (map g (spots_of spots)) ≡ length l = simp (length-map, length_spots) (omega arith) in
       noted (λ (i : ℕ). g (spot_at spots i)) (map g (spots_of spots)) l n mark_at
 
@@ -60,11 +60,11 @@ unfolding flag_of Ieee.of_bits Ieee.of_fields Ieee.odd Ieee.lt
 flag_back true = refl
 flag_back false = refl
 
-pub unrooted-noted :
+pub unrooted_noted :
     (piece : Piece) (spots l : List Float) → length spots ≡ length l * 2
     → written (tabulate (unrooted_at piece spots) (length l)) l ≡ unrooted_of piece (spots_of spots)
 unfolding unrooted_of
-unrooted-noted piece spots l e = noted-marks (λ (p : Point). unrooted p.x p.y piece) spots l e
+unrooted_noted piece spots l e = noted_marks (λ (p : Point). unrooted p.x p.y piece) spots l e
 
 -- their roots are the clearances
 pub noted_roots : (piece : Piece) (points : List Point) → map rooted (unrooted_of piece points) ≡ clearances_of piece points
@@ -72,12 +72,12 @@ unfolding unrooted_of clearances_of
 noted_roots piece [] = refl
 noted_roots piece (p ∷ points) = rw (rooted_clearance p.x p.y piece, noted_roots piece points)
 
-pub flags-noted :
+pub flags_noted :
     (obstacles : List Rectangle) (inset : Float) (spots l : List Float) → length spots ≡ length l * 2
     → written (tabulate (flag_at obstacles inset spots) (length l)) l ≡ map flag_of (honoring_of obstacles inset (spots_of spots))
 unfolding honoring_of
-flags-noted obstacles inset spots l e =
-    noted-marks (λ (p : Point). flag_of (clear_of_obstacles p.x p.y obstacles inset)) spots l e
+flags_noted obstacles inset spots l e =
+    noted_marks (λ (p : Point). flag_of (clear_of_obstacles p.x p.y obstacles inset)) spots l e
     ∙ together flag_of (λ (p : Point). clear_of_obstacles p.x p.y obstacles inset) (spots_of spots)
 
 -- a flag is read back

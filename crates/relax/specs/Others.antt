@@ -39,20 +39,20 @@ module _ (x y least : Float) where
   clear_past i j [] h = refl
   clear_past i j (q ∷ qs) h = rw (ne_eqb j i (λ e. omega arith), clear_past i (j + 1) qs (omega arith))
 
-  clear-from :
+  clear_from :
       (m j : ℕ) (qs : List Point) → m < length qs
       → clear_of_others x y least (j + m) j qs ≡ all (apart x y least) (take m qs) && all (apart x y least) (drop (suc m) qs)
   unfolding clear_of_others all
-  clear-from m j [] h = absurd (omega arith)
-  clear-from zero j (q ∷ qs) h = rw (eq-eqb j (j + 0) (omega arith), clear_past (j + 0) (j + 1) qs (omega arith))
-  clear-from (suc m) j (q ∷ qs) h =
+  clear_from m j [] h = absurd (omega arith)
+  clear_from zero j (q ∷ qs) h = rw (eq-eqb j (j + 0) (omega arith), clear_past (j + 0) (j + 1) qs (omega arith))
+  clear_from (suc m) j (q ∷ qs) h =
       let e : j + suc m ≡ j + 1 + m = omega arith in
-      rw (ne_eqb j (j + suc m) (λ e. omega arith), e, clear-from m (j + 1) qs (omega arith)) (sym (and_assoc (apart x y least q) _ _))
+      rw (ne_eqb j (j + suc m) (λ e. omega arith), e, clear_from m (j + 1) qs (omega arith)) (sym (and_assoc (apart x y least q) _ _))
 
-pub clear-others :
+pub clear_others :
     (x y least : Float) (i : ℕ) (points : List Point) → i < length points
     → clear_of_others x y least i 0 points ≡ all (apart x y least) (take i points) && all (apart x y least) (drop (i + 1) points)
-clear-others x y least i points h = ap (λ (k : ℕ). clear_of_others x y least k 0 points) (sym (zero-add i)) ∙ clear-from x y least i 0 points h ∙ rw add-one
+clear_others x y least i points h = ap (λ (k : ℕ). clear_of_others x y least k 0 points) (sym (zero-add i)) ∙ clear_from x y least i 0 points h ∙ rw add-one
 
 -- a sum is one of its parts where the others are 0
 own_alone : (before own after : ℕ) → eqb before 0 && eqb after 0 ≡ eqb (before + (own + after)) own
@@ -83,11 +83,11 @@ module _ (x y least : Float) where
   near_parts (suc i) (q ∷ qs) d h = omega (arith, near_parts i qs d (omega arith))
 
   -- no other mark is too near where no more are than mark i alone
-  pub clear-counted :
+  pub clear_counted :
       (i : ℕ) (points : List Point) (d : Point) → i < length points
       → clear_of_others x y least i 0 points ≡ eqb (near_count x y least points) (bool_byte (not (apart x y least (get_or points i d))))
-  clear-counted i points d h =
-      clear-others x y least i points h
+  clear_counted i points d h =
+      clear_others x y least i points h
       ∙ rw (none_near (take i points), none_near, add-one, near_parts i points d h)
       (own_alone (near_count x y least (take i points)) (bool_byte (not (apart x y least (get_or points i d)))) (near_count x y least (drop (suc i) points)))
 
@@ -109,21 +109,21 @@ module _ (influence : Float) (p : Point) where
   push_past i j [] f h = refl
   push_past i j (q ∷ qs) f h = rw (ne_eqb j i (λ e. omega arith)) (push_past i (j + 1) qs _ (omega arith))
 
-  push-from :
+  push_from :
       (m j : ℕ) (qs : List Point) (f : Force) → m < length qs
       → pushes influence (j + m) p j qs f ≡ foldl (push_of influence p) (foldl (push_of influence p) f (take m qs)) (drop (suc m) qs)
   unfolding pushes
-  push-from m j [] f h = absurd (omega arith)
-  push-from zero j (q ∷ qs) f h = rw (eq-eqb j (j + 0) (omega arith)) (push_past (j + 0) (j + 1) qs f (omega arith))
-  push-from (suc m) j (q ∷ qs) f h =
+  push_from m j [] f h = absurd (omega arith)
+  push_from zero j (q ∷ qs) f h = rw (eq-eqb j (j + 0) (omega arith)) (push_past (j + 0) (j + 1) qs f (omega arith))
+  push_from (suc m) j (q ∷ qs) f h =
       let e : j + suc m ≡ j + 1 + m = omega arith in
-      rw (ne_eqb j (j + suc m) (λ e. omega arith), e) (push-from m (j + 1) qs (push_of influence p f q) (omega arith))
+      rw (ne_eqb j (j + suc m) (λ e. omega arith), e) (push_from m (j + 1) qs (push_of influence p f q) (omega arith))
 
-  pub push-others :
+  pub push_others :
       (i : ℕ) (points : List Point) (f : Force) → i < length points
       → pushes influence i p 0 points f
       ≡ foldl (push_of influence p) (foldl (push_of influence p) f (take i points)) (drop (i + 1) points)
-  push-others i points f h = ap (λ (k : ℕ). pushes influence k p 0 points f) (sym (zero-add i)) ∙ push-from i 0 points f h ∙ rw add-one
+  push_others i points f h = ap (λ (k : ℕ). pushes influence k p 0 points f) (sym (zero-add i)) ∙ push_from i 0 points f h ∙ rw add-one
 
   pub reached :
       (f : Force) (q : Point) (d : Float) → reaches influence (square_between p q) ≡ true → d ≡ sqrt (square_between p q)
@@ -181,7 +181,7 @@ reordered false true false v r = refl
 reordered false false true v r = refl
 reordered false false false v r = refl
 
-pub accepts-reordered :
+pub accepts_reordered :
     (field : Field) (piece : Piece) (obstacles : List Rectangle) (candidate : Point) (i : ℕ) (points : List Point) (honoring : Bool)
     → accepts field piece obstacles candidate i points honoring
     ≡ cond (clear_of_others candidate.x candidate.y (field.spacing *ᶠ field.spacing) i 0 points)
@@ -190,7 +190,7 @@ pub accepts-reordered :
     Refused)
     Refused
 unfolding accepts
-accepts-reordered field piece obstacles candidate i points honoring =
+accepts_reordered field piece obstacles candidate i points honoring =
     reordered (signed_clearance candidate.x candidate.y piece <ᶠ field.inset)
     (honoring && not (clear_of_obstacles candidate.x candidate.y obstacles field.inset))
     (clear_of_others candidate.x candidate.y (field.spacing *ᶠ field.spacing) i 0 points)

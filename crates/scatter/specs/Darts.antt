@@ -24,7 +24,7 @@ use Rattle.glyphs.specs.Stream.{random_range}
 use Rattle.regions.specs.Clearance.{signed_clearance}
 use Rattle.regions.specs.Ring.{Piece, outer}
 use Rattle.relax.specs.declared.Spreading.{Spreading}
-use Rattle.relax.specs.Kept.{length-relaxed}
+use Rattle.relax.specs.Kept.{length_relaxed}
 use Rattle.relax.specs.Scatter.{relax_scatter}
 use Rattle.lattice.specs.Context.{inset, spacing}
 use Rattle.lattice.specs.Escape.{point}
@@ -49,10 +49,10 @@ held_in count rng spots = record { placed = take count (spots_of spots); rng = r
 abbrev pub Holds : Thrown → Taken → List Float → List Float → Type 0
 Holds thrown t exit entry = (t.count ≡ length thrown.placed) × (t.rng ≡ thrown.rng) × (exit ≡ written (flat thrown.placed) entry)
 
-pub held-end :
+pub held_end :
     (count : ℕ) (rng : Stream) (spots entry : List Float) (whole : Thrown) → length spots ≡ length entry → Front count spots entry → count * 2 ≤ length entry
     → held_in count rng spots ≡ whole → Holds whole (record { count = count; rng = rng }) spots entry
-held-end count rng spots entry whole same front h e =
+held_end count rng spots entry whole same front h e =
     (sym (length_first count spots (omega arith)) ∙ ap (λ (t : Thrown). length t.placed) e, ap (λ (t : Thrown). t.rng) e, front ∙ ap (λ (t : Thrown). written (flat t.placed) entry) e)
 
 -- what is written is read back
@@ -60,10 +60,10 @@ pub holds_read : (thrown : Thrown) (t : Taken) (exit entry : List Float) → Hol
 holds_read thrown t exit entry h = rw (h.0, h.1, h.2, first_written thrown.placed entry)
 
 -- the answer to a slice that had fewer marks
-pub holds-over :
+pub holds_over :
     (before after : Thrown) (t u : Taken) (exit between entry : List Float) → length before.placed ≤ length after.placed
     → Holds before t between entry → Holds after u exit between → Holds after u exit entry
-holds-over before after t u exit between entry h b a =
+holds_over before after t u exit between entry h b a =
     (a.0, a.1, a.2 ∙ ap (λ (l : List Float). written (flat after.placed) l) b.2 ∙ written_over before.placed after.placed entry h)
 
 same_marks : (next : Thrown → Thrown) (ps : List Point) (r s : Stream) (d : Dart) → after_dart next (record { placed = ps; rng = r }) d ≡ after_dart next (record { placed = ps; rng = s }) d
@@ -190,15 +190,15 @@ module _ (piece : Piece) (n attempts : ℕ) (ctx : PackCtx) (near : List Rectang
   unfolding throws
   two_passes h = let e : n - 0 ≡ n = omega arith in rw (h, e)
 
-  pub second-pass :
+  pub second_pass :
       (t u : Taken) (between exit : List Float) → (ctx.mode.strict_obstacles || eqb (length near) 0) ≡ false → Holds first t between entry
       → Holds (pass_from piece n attempts ctx near range false t.count t.rng between) u exit between → Holds (both piece n attempts ctx near range rng) u exit entry
-  second-pass t u between exit h a b =
+  second_pass t u between exit h a b =
       let later = marks piece n attempts ctx near range false (n - length first.placed) first in
       let e : pass_from piece n attempts ctx near range false t.count t.rng between ≡ later =
       ap (λ (v : Thrown). marks piece n attempts ctx near range false (n - t.count) v) (holds_read first t between entry a)
       ∙ ap (λ (k : ℕ). marks piece n attempts ctx near range false (n - k) first) a.0 in
-      rw (two_passes h) (holds-over first later t u exit between entry (more_marks piece n attempts ctx near range false (n - length first.placed) first) a (rw e at b))
+      rw (two_passes h) (holds_over first later t u exit between entry (more_marks piece n attempts ctx near range false (n - length first.placed) first) a (rw e at b))
 
 -- ---- the packer
 module _ (numbers : Spreading) (piece : Piece) (n attempts : ℕ) (ctx : PackCtx) (obstacles : List Rectangle) (rng : Stream) where
@@ -233,7 +233,7 @@ module _ (numbers : Spreading) (piece : Piece) (n attempts : ℕ) (ctx : PackCtx
         → Holds (pack_random_piece numbers piece n attempts ctx obstacles rng) t exit entry
     relaxed t between exit h a e =
         let ps = relax_scatter numbers thrown.placed piece near (spacing ctx) (inset ctx) in
-        let m : length ps ≡ length thrown.placed = length-relaxed numbers thrown.placed piece near (spacing ctx) (inset ctx) in
+        let m : length ps ≡ length thrown.placed = length_relaxed numbers thrown.placed piece near (spacing ctx) (inset ctx) in
         let f : take t.count (spots_of between) ≡ thrown.placed = ap (λ (v : Thrown). v.placed) (holds_read thrown t between entry a) in
         rw (spread h)
         (a.0 ∙ sym m, a.1, e ∙ rw (f, a.2) (written_over thrown.placed ps entry (omega arith)))

@@ -43,11 +43,11 @@ written_over ps qs l h =
     ∙ drop-drop (length (flat qs) - length (flat ps)) (length (flat ps)) l
     ∙ ap (λ (n : ℕ). drop n l) (sym e))
 
-put-behind :
+put_behind :
     (ps : List Point) (l : List Float) (p : Point) → length ps * 2 + 1 < length l
     → put_spot (written (flat ps) l) (length ps) p ≡ written (flat (ps ++ p ∷ [])) l
 unfolding put_spot flat
-put-behind ps l p h =
+put_behind ps l p h =
     let n : length (flat ps ++ p.x ∷ []) ≡ length ps * 2 + 1 = simp length-append (omega (arith, length_flat ps)) in
     ap (λ (t : List Float). set t (length ps * 2 + 1) p.y) (written_next (flat ps) l (length ps * 2) p.x (length_flat ps) (omega arith))
     ∙ written_next (flat ps ++ p.x ∷ []) l (length ps * 2 + 1) p.y n h
@@ -60,7 +60,7 @@ module _ (count : ℕ) (spots entry : List Float) (same : length spots ≡ lengt
       let e : length (take count (spots_of spots)) ≡ count = length_first count spots (omega arith) in
       ap (λ (t : List Float). put_spot t count p) front
       ∙ ap (λ (k : ℕ). put_spot (written (flat (take count (spots_of spots))) entry) k p) (sym e)
-      ∙ put-behind (take count (spots_of spots)) entry p (rw e h)
+      ∙ put_behind (take count (spots_of spots)) entry p (rw e h)
 
   pub first_put : take (count + 1) (spots_of (put_spot spots count p)) ≡ take count (spots_of spots) ++ p ∷ []
   first_put =

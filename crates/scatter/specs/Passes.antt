@@ -136,20 +136,20 @@ module _ (piece : Piece) (n : ℕ) (ctx : PackCtx) (near : List Rectangle) (anch
   abbrev both : List Point
   both = passes piece n ctx near anchor e.min_x e.max_x e.min_y e.max_y
 
-  admits-is :
+  admits_is :
       (honor : Bool) (placed : List Point) (p : Point)
       → admits_in piece c near cells honor placed p ≡ admits piece n ctx near anchor e.min_x e.max_x e.min_y e.max_y honor placed p
   unfolding admits admits_in apart keeps cells_of
-  admits-is honor placed p = rw (el, ec)
+  admits_is honor placed p = rw (el, ec)
 
-  pass-is :
+  pass_is :
       (honor : Bool) (turns index : ℕ) (placed : List Point)
       → pass_in piece n c near cells anchor e honor turns index placed ≡ pass piece n ctx near anchor e.min_x e.max_x e.min_y e.max_y honor turns index placed
   unfolding pass_in pass candidate
-  pass-is honor zero index placed = refl
-  pass-is honor (suc turns) index placed =
+  pass_is honor zero index placed = refl
+  pass_is honor (suc turns) index placed =
       let p = tried piece n c near cells anchor e index in
-      rw (pass-is honor turns (index + 1) (placed_if (admits_in piece c near cells honor placed p) p placed), admits-is honor placed p)
+      rw (pass_is honor turns (index + 1) (placed_if (admits_in piece c near cells honor placed p) p placed), admits_is honor placed p)
 
   -- what the definition picks from
   abbrev honored : List Point
@@ -163,11 +163,11 @@ module _ (piece : Piece) (n : ℕ) (ctx : PackCtx) (near : List Rectangle) (anch
 
   pub once : ends ≡ true → run true [] ≡ both
   unfolding passes
-  once h = pick_true honored topped ends h (pass-is true (budget n) 0 [])
+  once h = pick_true honored topped ends h (pass_is true (budget n) 0 [])
 
   pub twice : ends ≡ false → run false (run true []) ≡ both
   unfolding passes
-  twice h = pick_false honored topped ends h (ap (run false) (pass-is true (budget n) 0 []) ∙ pass-is false (budget n) 0 honored)
+  twice h = pick_false honored topped ends h (ap (run false) (pass_is true (budget n) 0 []) ∙ pass_is false (budget n) 0 honored)
 
 -- ---- a lone mark's anchor
 module _ (poi : Point) (piece : Piece) (n : ℕ) (ctx : PackCtx) (obstacles : List Rectangle) where
@@ -179,12 +179,12 @@ module _ (poi : Point) (piece : Piece) (n : ℕ) (ctx : PackCtx) (obstacles : Li
   unfolding lone_anchor escape_obstacles obstacles_near clear_of_obstacles
   unbounded_anchor e box = rw (eq-eqb n 1 e, box)
 
-  pub anchor-is :
+  pub anchor_is :
       n ≡ 1 → (min-x max-x min-y max-y : Float) → ring_bounds (outer piece) ≡ Box min-x max-x min-y max-y
       → (c : Float) (near : List Rectangle) → c ≡ inset ctx → near ≡ obstacles_near (Box min-x max-x min-y max-y) obstacles c
       → At (escape_obstacles poi piece near c) ≡ lone_anchor poi piece n ctx obstacles
   unfolding lone_anchor
-  anchor-is e min-x max-x min-y max-y box c near el en = rw (eq-eqb n 1 e, box, en, el)
+  anchor_is e min-x max-x min-y max-y box c near el en = rw (eq-eqb n 1 e, box, en, el)
 
 -- ---- a piece
 module _ (anchor : Anchor) (piece : Piece) (n : ℕ) (ctx : PackCtx) (obstacles : List Rectangle) where
@@ -196,9 +196,9 @@ module _ (anchor : Anchor) (piece : Piece) (n : ℕ) (ctx : PackCtx) (obstacles 
   unfolding pack_scatter pack_within
   unbounded h box = rw (ne_eqb n 0 h, box)
 
-  pub scatter-is :
+  pub scatter_is :
       (n ≡ 0 → ⊥) → (min-x max-x min-y max-y : Float) → ring_bounds (outer piece) ≡ Box min-x max-x min-y max-y
       → (c : Float) (near : List Rectangle) → c ≡ inset ctx → near ≡ obstacles_near (Box min-x max-x min-y max-y) obstacles c
       → passes piece n ctx near anchor min-x max-x min-y max-y ≡ pack_scatter anchor piece n ctx obstacles
   unfolding pack_scatter pack_within
-  scatter-is h min-x max-x min-y max-y box c near el en = rw (ne_eqb n 0 h, box, en, el) (rw box)
+  scatter_is h min-x max-x min-y max-y box c near el en = rw (ne_eqb n 0 h, box, en, el) (rw box)

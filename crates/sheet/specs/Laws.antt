@@ -18,11 +18,11 @@ use Rattle.sheet.specs.Back.{length_zone_head, length_sheet_head}
 part : (l : List ℕ) (at n : ℕ) (xs ys : List ℕ) → length xs ≡ n → sets l at (xs ++ ys) ≡ sets (sets l at xs) (at + n) ys
 part l at n xs ys e = sets_append l at xs ys ∙ rw e
 
-pub put-sheet-head :
+pub put_sheet_head :
     (l : List ℕ) (rest : ℕ) (radius : Float) (zones : ℕ)
     → sets l 0 (sheet_head rest radius zones) ≡ sets (sets (sets (sets l 0 (bytes 4 rest)) 4 (bytes 1 1)) 5 (float_bytes radius)) 13 (bytes 2 zones)
 unfolding sheet_head
-put-sheet-head l rest radius zones =
+put_sheet_head l rest radius zones =
     let l4 = sets l 0 (bytes 4 rest) in
     let l5 = sets l4 4 (bytes 1 1) in
     simp append_assoc
@@ -30,12 +30,12 @@ put-sheet-head l rest radius zones =
     ∙ part l4 4 1 (bytes 1 1) (float_bytes radius ++ bytes 2 zones) (length_bytes 1 1)
     ∙ part l5 5 8 (float_bytes radius) (bytes 2 zones) (length_float radius))
 
-pub put-zone-head :
+pub put_zone_head :
     (l : List ℕ) (at : ℕ) (key : List ℕ) (placed unplaced : ℕ)
     → sets l at (zone_head key placed unplaced)
     ≡ sets (sets (sets (sets l at (bytes 1 (length key))) (at + 1) key) (at + 1 + length key) (bytes 2 placed)) (at + 1 + length key + 2) (bytes 2 unplaced)
 unfolding zone_head
-put-zone-head l at key placed unplaced =
+put_zone_head l at key placed unplaced =
     let l1 = sets l at (bytes 1 (length key)) in
     let l2 = sets l1 (at + 1) key in
     simp append_assoc
@@ -45,20 +45,20 @@ put-zone-head l at key placed unplaced =
 
 -- ---- one turn of the loops
 
-pub key-turn :
+pub key_turn :
     {x : List ℕ} (l : List ℕ) (at : ℕ) (s : List ℕ) (k n : ℕ) → 0 < n → k + n ≤ length s → x ≡ sets l at (take n (drop k s))
     → x ≡ sets (set l at (get_or s k 0)) (at + 1) (take (n - 1) (drop (k + 1) s))
-key-turn l at s k n m h e = e ∙ rw (next_byte_lem s k n m h, add-one at)
+key_turn l at s k n m h e = e ∙ rw (next_byte_lem s k n m h, add-one at)
 
 pub key_end : {x : List ℕ} (l : List ℕ) (at : ℕ) (s : List ℕ) (k n : ℕ) → n ≤ 0 → x ≡ sets l at (take n (drop k s)) → l ≡ x
 key_end l at s k zero h e = sym e
 key_end l at s k (suc n) h e = absurd (omega arith)
 
-pub spots-turn :
+pub spots_turn :
     {x : List ℕ} (l : List ℕ) (at : ℕ) (spots : List Float) (i : ℕ) (d : Float) → i < length spots → x ≡ sets l at (flat_map float_bytes (drop i spots))
     → x ≡ sets (sets l at (float_bytes (get_or spots i d))) (at + 8) (flat_map float_bytes (drop (i + 1) spots))
 unfolding flat_map
-spots-turn l at spots i d h e =
+spots_turn l at spots i d h e =
     e
     ∙ rw
     (drop-cons spots i d h, add-one, sets_append l at (float_bytes (get_or spots i d)) (flat_map float_bytes (drop (suc i) spots)), length_float (get_or spots i d))
@@ -70,22 +70,22 @@ spots_end l at spots i h e = sym (e ∙ rw (drop_of_length-le spots h))
 -- ---- the whole
 
 -- a zone's head and its spots
-pub put-placement :
+pub put_placement :
     (l : List ℕ) (at : ℕ) (z : Placement)
     → sets (sets l at (zone_head z.key (length z.spots / 2) z.unplaced)) (at + 5 + length z.key) (flat_map float_bytes z.spots) ≡ sets l at (placement_bytes z)
 unfolding placement_bytes
-put-placement l at z =
+put_placement l at z =
     let h = zone_head z.key (length z.spots / 2) z.unplaced in
     let e : at + length h ≡ at + 5 + length z.key = omega (arith, length_zone_head z.key (length z.spots / 2) z.unplaced) in
     sym (sets_append l at h (flat_map float_bytes z.spots) ∙ rw e)
 
 -- the zones first, then the head before them: the sheet stands in front, and what is behind it is as it was
-pub put-sheet :
+pub put_sheet :
     (l : List ℕ) (sheet : Sheet) → length (sheet_of sheet) ≤ length l
     → sets (sets l 15 (flat_map placement_bytes sheet.zones)) 0 (sheet_head (11 + length (flat_map placement_bytes sheet.zones)) sheet.radius (length sheet.zones))
     ≡ written (sheet_of sheet) l
 unfolding sheet_of
-put-sheet l sheet h =
+put_sheet l sheet h =
     let zs = flat_map placement_bytes sheet.zones in
     let head = sheet_head (11 + length zs) sheet.radius (length sheet.zones) in
     let k = length_sheet_head (11 + length zs) sheet.radius (length sheet.zones) in

@@ -9,11 +9,11 @@ use lib.Ieee.Exact.{HasValue, units_val}
 use Rattle.float.specs.Laws.Pattern.{of_units, pattern_units}
 
 -- ---- the pattern of a value by the fraction of 2 ^ 1074 that it equals
-pattern-value : (x : Float) (n : ℕ) → HasValue x false n (2 ^ 1074) → to_bits binary64 x ≡ of_units n
-pattern-value nan n h = absurd h
-pattern-value (inf s) n h = absurd h
-pattern-value (fin true m e) n h = absurd (true≢false h.0)
-pattern-value (fin false m e) n h = pattern_units m e ∙ ap of_units (ap (λ (x : ℕ). x / down e) h.1 ∙ mul-div_cancel n (down_pos e))
+pattern_value : (x : Float) (n : ℕ) → HasValue x false n (2 ^ 1074) → to_bits binary64 x ≡ of_units n
+pattern_value nan n h = absurd h
+pattern_value (inf s) n h = absurd h
+pattern_value (fin true m e) n h = absurd (true≢false h.0)
+pattern_value (fin false m e) n h = pattern_units m e ∙ ap of_units (ap (λ (x : ℕ). x / down e) h.1 ∙ mul-div_cancel n (down_pos e))
 
 -- ---- how many digits r * 2 ^ k has, and what is kept of them
 dropped : (r k : ℕ) → 2 ^ 52 ≤ r → r < 2 ^ 53 → size (r * 2 ^ k) - 53 ≡ k
@@ -33,7 +33,7 @@ carried k =
     let moved : 2 ^ 53 * 2 ^ k ≡ 2 ^ 52 * 2 ^ suc k = mul_assoc (2 ^ 52) 2 (2 ^ k) ∙ ap (λ (x : ℕ). 2 ^ 52 * x) (sym (pow-succ' 2 k)) in
     ap of_units moved ∙ plain (2 ^ 52) (suc k) (lit≤ tt) (lit< tt) ∙ omega arith
 
-pub units-pattern : (r k : ℕ) → 2 ^ 52 ≤ r → r ≤ 2 ^ 53 → r * 2 ^ k < 2 ^ 2098 → to_bits binary64 (units binary64 false r k) ≡ k * 2 ^ 52 + r
-units-pattern r k l h fine =
-    pattern-value (units binary64 false r k) (r * 2 ^ k) (units_val binary64 false r k fine)
+pub units_pattern : (r k : ℕ) → 2 ^ 52 ≤ r → r ≤ 2 ^ 53 → r * 2 ^ k < 2 ^ 2098 → to_bits binary64 (units binary64 false r k) ≡ k * 2 ^ 52 + r
+units_pattern r k l h fine =
+    pattern_value (units binary64 false r k) (r * 2 ^ k) (units_val binary64 false r k fine)
     ∙ elim (eq-or-lt_of_le h) [ inl e ↦ subst (λ (x : ℕ). of_units (x * 2 ^ k) ≡ k * 2 ^ 52 + x) (sym e) (carried k) | inr g ↦ plain r k l g ]

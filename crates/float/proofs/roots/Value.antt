@@ -9,14 +9,14 @@ use borrow.Author.Tests.{lt-leb}
 use Rattle.float.specs.Root.{root_of, nearest_root}
 
 -- ---- the root by the fraction of 2 ^ low that x equals
-rootOf-value : (f : Format) (x : Float) (n : ℕ) → 0 < n → HasValue x false n (2 ^ low f) → root_of f x ≡ nearest_root f (n * 2 ^ low f)
+root_of_value : (f : Format) (x : Float) (n : ℕ) → 0 < n → HasValue x false n (2 ^ low f) → root_of f x ≡ nearest_root f (n * 2 ^ low f)
 unfolding root_of
-rootOf-value f nan n p h = absurd h
-rootOf-value f (inf s) n p h = absurd h
-rootOf-value f (fin true zero e) n p h = absurd (true≢false h.0)
-rootOf-value f (fin true (suc m) e) n p h = absurd (true≢false h.0)
-rootOf-value f (fin false zero e) n p h = absurd (omega (arith, h.1, mul-pos p (down_pos e)))
-rootOf-value f (fin false (suc m) e) n p h =
+root_of_value f nan n p h = absurd h
+root_of_value f (inf s) n p h = absurd h
+root_of_value f (fin true zero e) n p h = absurd (true≢false h.0)
+root_of_value f (fin true (suc m) e) n p h = absurd (true≢false h.0)
+root_of_value f (fin false zero e) n p h = absurd (omega (arith, h.1, mul-pos p (down_pos e)))
+root_of_value f (fin false (suc m) e) n p h =
     let l = 2 ^ low f in
     let a : suc m * up e * (l * l) ≡ n * l * down e = sym (mul_assoc (suc m * up e) l l) ∙ ap (λ (x : ℕ). x * l) h.1 ∙ mul_right_comm n (down e) l in
     ap (nearest_root f) (ap (λ (x : ℕ). x / down e) a ∙ mul-div_cancel (n * l) (down_pos e))
@@ -34,23 +34,23 @@ subnormal : (t : ℕ) → of_fields binary64 false 0 t ≡ odd 53 false t 0 1074
 unfolding of_fields
 subnormal t = refl
 
-normal-value : (b : ℕ) → 2 ^ 52 ≤ b → b < 0x7ff0_0000_0000_0000 → HasValue (of_bits binary64 b) false ((2 ^ 52 + b % 2 ^ 52) * 2 ^ (b / 2 ^ 52 - 1)) (2 ^ 1074)
-normal-value b l h =
+normal_value : (b : ℕ) → 2 ^ 52 ≤ b → b < 0x7ff0_0000_0000_0000 → HasValue (of_bits binary64 b) false ((2 ^ 52 + b % 2 ^ 52) * 2 ^ (b / 2 ^ 52 - 1)) (2 ^ 1074)
+normal_value b l h =
     let x = b / 2 ^ 52 - 1 in
     let t = b % 2 ^ 52 in
     let e : b / 2 ^ 52 ≡ suc x = omega arith in
     let is : of_bits binary64 b ≡ odd 53 false (2 ^ 52 + t) x 1074 = fields b (omega arith) ∙ ap (λ (z : ℕ). of_fields binary64 false z t) e ∙ normal t x (omega arith) in
     subst (λ (z : Float). HasValue z false ((2 ^ 52 + t) * 2 ^ x) (2 ^ 1074)) (sym is) (odd_sign 53 false (2 ^ 52 + t) x 1074)
 
-subnormal-value : (b : ℕ) → b < 2 ^ 52 → HasValue (of_bits binary64 b) false (b * 2 ^ 0) (2 ^ 1074)
-subnormal-value b h =
+subnormal_value : (b : ℕ) → b < 2 ^ 52 → HasValue (of_bits binary64 b) false (b * 2 ^ 0) (2 ^ 1074)
+subnormal_value b h =
     let e : b / 2 ^ 52 ≡ 0 = omega arith in
     let is : of_bits binary64 b ≡ odd 53 false b 0 1074 = fields b (omega arith) ∙ ap (λ (z : ℕ). of_fields binary64 false z (b % 2 ^ 52)) e ∙ ap (λ (z : ℕ). of_fields binary64 false 0 z) (mod-eq_of_lt h) ∙ subnormal b in
     subst (λ (z : Float). HasValue z false (b * 2 ^ 0) (2 ^ 1074)) (sym is) (odd_sign 53 false b 0 1074)
 
 -- ---- their roots
-pub normal-root : (b : ℕ) → 2 ^ 52 ≤ b → b < 0x7ff0_0000_0000_0000 → root_of binary64 (of_bits binary64 b) ≡ nearest_root binary64 ((b % 2 ^ 52 + 2 ^ 52) * 2 ^ 52 * 2 ^ (b / 2 ^ 52 + 1021))
-normal-root b l h =
+pub normal_root : (b : ℕ) → 2 ^ 52 ≤ b → b < 0x7ff0_0000_0000_0000 → root_of binary64 (of_bits binary64 b) ≡ nearest_root binary64 ((b % 2 ^ 52 + 2 ^ 52) * 2 ^ 52 * 2 ^ (b / 2 ^ 52 + 1021))
+normal_root b l h =
     let m = 2 ^ 52 + b % 2 ^ 52 in
     let x = b / 2 ^ 52 - 1 in
     let g = b / 2 ^ 52 + 1021 in
@@ -58,15 +58,15 @@ normal-root b l h =
     let j : x + 1074 ≡ 52 + g = omega arith in
     let powers : 2 ^ x * 2 ^ 1074 ≡ 2 ^ 52 * 2 ^ g = sym (pow-add 2 x 1074) ∙ ap (λ (z : ℕ). 2 ^ z) j ∙ pow-add 2 52 g in
     let e : m * 2 ^ x * 2 ^ 1074 ≡ m * 2 ^ 52 * 2 ^ g = mul_assoc m (2 ^ x) (2 ^ 1074) ∙ ap (λ (z : ℕ). m * z) powers ∙ sym (mul_assoc m (2 ^ 52) (2 ^ g)) in
-    rootOf-value binary64 (of_bits binary64 b) (m * 2 ^ x) (mul-pos (omega arith) (pow_pos x)) (normal-value b l h) ∙ ap (nearest_root binary64) (e ∙ ap (λ (z : ℕ). z * 2 ^ 52 * 2 ^ g) c)
+    root_of_value binary64 (of_bits binary64 b) (m * 2 ^ x) (mul-pos (omega arith) (pow_pos x)) (normal_value b l h) ∙ ap (nearest_root binary64) (e ∙ ap (λ (z : ℕ). z * 2 ^ 52 * 2 ^ g) c)
 
-pub subnormal-root : (b z : ℕ) → 0 < b → b < 2 ^ 52 → z ≤ 52 → root_of binary64 (of_bits binary64 b) ≡ nearest_root binary64 (b * 2 ^ z * 2 ^ 52 * 2 ^ (1022 - z))
-subnormal-root b z p h s =
+pub subnormal_root : (b z : ℕ) → 0 < b → b < 2 ^ 52 → z ≤ 52 → root_of binary64 (of_bits binary64 b) ≡ nearest_root binary64 (b * 2 ^ z * 2 ^ 52 * 2 ^ (1022 - z))
+subnormal_root b z p h s =
     let g = 1022 - z in
     let j : 1074 ≡ z + 52 + g = omega arith in
     let powers : 2 ^ 1074 ≡ 2 ^ z * 2 ^ 52 * 2 ^ g = ap (λ (x : ℕ). 2 ^ x) j ∙ pow-add 2 (z + 52) g ∙ ap (λ (x : ℕ). x * 2 ^ g) (pow-add 2 z 52) in
     let e : b * 2 ^ 1074 ≡ b * 2 ^ z * 2 ^ 52 * 2 ^ g = ap (λ (x : ℕ). b * x) powers ∙ sym (mul_assoc b (2 ^ z * 2 ^ 52) (2 ^ g)) ∙ ap (λ (x : ℕ). x * 2 ^ g) (sym (mul_assoc b (2 ^ z) (2 ^ 52))) in
-    rootOf-value binary64 (of_bits binary64 b) (b * 2 ^ 0) (omega arith) (subnormal-value b h) ∙ ap (nearest_root binary64) (ap (λ (x : ℕ). x * 2 ^ 1074) (mul-one b) ∙ e)
+    root_of_value binary64 (of_bits binary64 b) (b * 2 ^ 0) (omega arith) (subnormal_value b h) ∙ ap (nearest_root binary64) (ap (λ (x : ℕ). x * 2 ^ 1074) (mul-one b) ∙ e)
 
 -- ---- the digits of a subnormal x moved up until they are 53, as the program does it
 pub moved : (b : ℕ) → 0 < b → b < 2 ^ 52 → (11 ≤ count_leading_zeros 64 b) × (count_leading_zeros 64 b - 11 ≤ 52) × (2 ^ 52 ≤ b * 2 ^ (count_leading_zeros 64 b - 11)) × (b * 2 ^ (count_leading_zeros 64 b - 11) < 2 ^ 53)

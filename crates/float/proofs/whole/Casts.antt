@@ -42,55 +42,55 @@ signed_low (fin true m e) l h =
     ap (λ (n : ℕ). neg_ℤ (pos n)) full
 signed_low (fin false m e) l h = let k = ltb→lt (m * up e * 1) (0 * down e) h in absurd (omega arith)
 
-pub signed-none : (x : Float) → T (not (le least x)) → T (not (lt x origin)) → pos 0 ≡ as_i64 x
+pub signed_none : (x : Float) → T (not (le least x)) → T (not (lt x origin)) → pos 0 ≡ as_i64 x
 unfolding le lt eq to_signed
-signed-none nan l h = refl
-signed-none (inf true) l h = absurd h
-signed-none (inf false) l h = absurd l
-signed-none (fin true m e) l h =
+signed_none nan l h = refl
+signed_none (inf true) l h = absurd h
+signed_none (inf false) l h = absurd l
+signed_none (fin true m e) l h =
     let k = nltb→le (m * up e * 1) (1 * 2 ^ 63 * down e) (nor_l (ltb (m * up e * 1) (1 * 2 ^ 63 * down e)) (eq least (fin true m e)) l) in
     let n = nltb→le 0 (m * up e * 1 + 0 * down e) h in
     absurd (omega (arith, down_pos e))
-signed-none (fin false m e) l h =
+signed_none (fin false m e) l h =
     let k = nltb→le 0 (1 * 2 ^ 63 * down e + m * up e * 1) (nor_l (ltb 0 (1 * 2 ^ 63 * down e + m * up e * 1)) (eq least (fin false m e)) l) in
     absurd (omega (arith, down_pos e))
 
-pub unsigned-high : (x : Float) → T (lt minus_one x) → T (not (lt x (past 64))) → 2 ^ 64 - 1 ≡ as_usize x
+pub unsigned_high : (x : Float) → T (lt minus_one x) → T (not (lt x (past 64))) → 2 ^ 64 - 1 ≡ as_usize x
 unfolding lt to_unsigned
-unsigned-high nan l h = absurd l
-unsigned-high (inf true) l h = absurd l
-unsigned-high (inf false) l h = refl
-unsigned-high (fin true m e) l h = let k = nltb→le 0 (m * up e * 1 + 1 * 2 ^ 64 * down e) h in absurd (omega (arith, down_pos e))
-unsigned-high (fin false m e) l h = let k = far m e (2 ^ 64) h in omega arith
+unsigned_high nan l h = absurd l
+unsigned_high (inf true) l h = absurd l
+unsigned_high (inf false) l h = refl
+unsigned_high (fin true m e) l h = let k = nltb→le 0 (m * up e * 1 + 1 * 2 ^ 64 * down e) h in absurd (omega (arith, down_pos e))
+unsigned_high (fin false m e) l h = let k = far m e (2 ^ 64) h in omega arith
 
-pub unsigned-none : (x : Float) → T (not (lt minus_one x)) → 0 ≡ as_usize x
+pub unsigned_none : (x : Float) → T (not (lt minus_one x)) → 0 ≡ as_usize x
 unfolding lt to_unsigned
-unsigned-none nan h = refl
-unsigned-none (inf true) h = refl
-unsigned-none (inf false) h = absurd h
-unsigned-none (fin true m e) h = refl
-unsigned-none (fin false m e) h = let k = nltb→le 0 (1 * down e + m * up e * 1) h in absurd (omega (arith, down_pos e))
+unsigned_none nan h = refl
+unsigned_none (inf true) h = refl
+unsigned_none (inf false) h = absurd h
+unsigned_none (fin true m e) h = refl
+unsigned_none (fin false m e) h = let k = nltb→le 0 (1 * down e + m * up e * 1) h in absurd (omega (arith, down_pos e))
 
 -- ---- a small word as an `i64`, and 0 less it
 module _ (n : ℕ) (small : n ≤ 2 ^ 53) where
   fits : n < 2 ^ 63
   fits = omega arith
 
-  pub positive-fits : SFits w64 (pos n)
-  positive-fits = record { sfits = fits }
+  pub positive_fits : SFits w64 (pos n)
+  positive_fits = record { sfits = fits }
 
-  pub positive-is : to_z w64 n ≡ pos n
-  positive-is = to_z_pos w64 n fits
+  pub positive_is : to_z w64 n ≡ pos n
+  positive_is = to_z_pos w64 n fits
 
   minus : pos 0 -ℤ to_z w64 n ≡ neg_ℤ (pos n)
-  minus = ap (λ (z : ℤ). pos 0 -ℤ z) positive-is ∙ +ℤ_idl (neg_ℤ (pos n))
+  minus = ap (λ (z : ℤ). pos 0 -ℤ z) positive_is ∙ +ℤ_idl (neg_ℤ (pos n))
 
-  pub minus-fits : SFits w64 (pos 0 -ℤ to_z w64 n)
-  minus-fits = subst (λ (z : ℤ). SFits w64 z) (sym minus) (go n small)
+  pub minus_fits : SFits w64 (pos 0 -ℤ to_z w64 n)
+  minus_fits = subst (λ (z : ℤ). SFits w64 z) (sym minus) (go n small)
     where
       go : (k : ℕ) → k ≤ 2 ^ 53 → SFits w64 (neg_ℤ (pos k))
       go zero h = record { sfits = omega arith }
       go (suc k) h = record { sfits = omega arith }
 
   pub minus_is : to_z w64 (of_z w64 (pos 0 -ℤ to_z w64 n)) ≡ neg_ℤ (pos n)
-  minus_is = to_z-of_z w64 (pos 0 -ℤ to_z w64 n) minus-fits ∙ minus
+  minus_is = to_z-of_z w64 (pos 0 -ℤ to_z w64 n) minus_fits ∙ minus

@@ -15,29 +15,29 @@ use Rattle.float.proofs.whole.Casts.{minus_one, past}
 abbrev pub Sized : Bool → Float → Type 0
 Sized s x = (m : ℕ) × (e : ℤ) × (x ≡ fin s (suc m) e) × Small (suc m) e
 
-pub above-sized : (x : Float) → T (lt origin x) → T (lt x (bound false)) → Sized false x
+pub above_sized : (x : Float) → T (lt origin x) → T (lt x (bound false)) → Sized false x
 unfolding lt
-above-sized nan l h = absurd l
-above-sized (inf true) l h = absurd l
-above-sized (inf false) l h = absurd h
-above-sized (fin true m e) l h = absurd l
-above-sized (fin false zero e) l h = absurd (zero_not_above false e l)
-above-sized (fin false (suc m) e) l h = (m, e, refl, let k = ltb→lt (suc m * up e * 1) (1 * 2 ^ 53 * down e) h in omega arith)
+above_sized nan l h = absurd l
+above_sized (inf true) l h = absurd l
+above_sized (inf false) l h = absurd h
+above_sized (fin true m e) l h = absurd l
+above_sized (fin false zero e) l h = absurd (zero_not_above false e l)
+above_sized (fin false (suc m) e) l h = (m, e, refl, let k = ltb→lt (suc m * up e * 1) (1 * 2 ^ 53 * down e) h in omega arith)
 
-pub below-sized : (x : Float) → T (lt x origin) → T (lt (bound true) x) → Sized true x
+pub below_sized : (x : Float) → T (lt x origin) → T (lt (bound true) x) → Sized true x
 unfolding lt
-below-sized nan l h = absurd l
-below-sized (inf true) l h = absurd h
-below-sized (inf false) l h = absurd l
-below-sized (fin true zero e) l h = absurd (zero_not_below true e l)
-below-sized (fin true (suc m) e) l h = (m, e, refl, let k = ltb→lt (suc m * up e * 1) (1 * 2 ^ 53 * down e) h in omega arith)
-below-sized (fin false zero e) l h = absurd (zero_not_below false e l)
-below-sized (fin false (suc m) e) l h = let k = ltb→lt (suc m * up e * 1) (0 * down e) l in absurd (omega arith)
+below_sized nan l h = absurd l
+below_sized (inf true) l h = absurd h
+below_sized (inf false) l h = absurd l
+below_sized (fin true zero e) l h = absurd (zero_not_below true e l)
+below_sized (fin true (suc m) e) l h = (m, e, refl, let k = ltb→lt (suc m * up e * 1) (1 * 2 ^ 53 * down e) h in omega arith)
+below_sized (fin false zero e) l h = absurd (zero_not_below false e l)
+below_sized (fin false (suc m) e) l h = let k = ltb→lt (suc m * up e * 1) (0 * down e) l in absurd (omega arith)
 
 -- ---- what the casts and `whole_above` ask
-pub cut-asks : (x : Float) → Sized false x → T (lt minus_one x) × T (lt x (past 64))
+pub cut_asks : (x : Float) → Sized false x → T (lt minus_one x) × T (lt x (past 64))
 unfolding lt
-cut-asks x (m, e, i, h) = subst (λ (y : Float). T (lt minus_one y) × T (lt y (past 64))) (sym i) (
+cut_asks x (m, e, i, h) = subst (λ (y : Float). T (lt minus_one y) × T (lt y (past 64))) (sym i) (
   lt→ltb 0 (1 * down e + suc m * up e * 1) (omega (arith, down_pos e)),
   lt→ltb (suc m * up e * 1) (1 * 2 ^ 64 * down e) (omega arith),
 )
@@ -46,100 +46,100 @@ pub neg_sized : (x : Float) → Sized true x → Sized false (neg x)
 unfolding neg
 neg_sized x (m, e, i, h) = (m, e, ap neg i, h)
 
-pub above-asks : (x : Float) → Sized false x → T (lt origin x) × T (lt x (bound false))
+pub above_asks : (x : Float) → Sized false x → T (lt origin x) × T (lt x (bound false))
 unfolding lt
-above-asks x (m, e, i, h) = subst (λ (y : Float). T (lt origin y) × T (lt y (bound false))) (sym i) (positive_above m e, lt→ltb (suc m * up e * 1) (1 * 2 ^ 53 * down e) (omega arith))
+above_asks x (m, e, i, h) = subst (λ (y : Float). T (lt origin y) × T (lt y (bound false))) (sym i) (positive_above m e, lt→ltb (suc m * up e * 1) (1 * 2 ^ 53 * down e) (omega arith))
 
 -- ---- what they give, by the value's form
 cut_is : (m : ℕ) (e : ℤ) → Small (suc m) e → to_unsigned 64 (fin false (suc m) e) ≡ under (suc m) e
 unfolding to_unsigned under
 cut_is m e h = omega (arith, under_lt (suc m) e h)
 
-above-is : (m : ℕ) (e : ℤ) → Small (suc m) e → as_usize (ceil (fin false (suc m) e)) ≡ over (suc m) e
-above-is m e h = unsigned_value (ceil (fin false (suc m) e)) (over (suc m) e) (ceil_above m e h) (omega (arith, over_le (suc m) e h))
+above_is : (m : ℕ) (e : ℤ) → Small (suc m) e → as_usize (ceil (fin false (suc m) e)) ≡ over (suc m) e
+above_is m e h = unsigned_value (ceil (fin false (suc m) e)) (over (suc m) e) (ceil_above m e h) (omega (arith, over_le (suc m) e h))
 
 -- a whole number below a value
-ltb-scale : (a b k : ℕ) → 0 < k → ltb (a * k) (b * k) ≡ ltb a b
-ltb-scale a b k K = go (ltb a b) (ltb-true a b) (ltb-false a b)
+ltb_scale : (a b k : ℕ) → 0 < k → ltb (a * k) (b * k) ≡ ltb a b
+ltb_scale a b k K = go (ltb a b) (ltb-true a b) (ltb-false a b)
   where
     go : (t : Bool) → (t ≡ true → a < b) → (t ≡ false → b ≤ a) → ltb (a * k) (b * k) ≡ t
     go true y n = lt-ltb (a * k) (b * k) (mul-lt-mul_of_pos_right (y refl) K)
     go false y n = le-ltb (a * k) (b * k) (mul-le-mul_right k (n refl))
 
-lt-whole : (y : Float) (n m : ℕ) (e : ℤ) → HasValue y false n 1 → lt y (fin false m e) ≡ ltb (n * down e) (m * up e)
+lt_whole : (y : Float) (n m : ℕ) (e : ℤ) → HasValue y false n 1 → lt y (fin false m e) ≡ ltb (n * down e) (m * up e)
 unfolding lt
-lt-whole nan n m e h = absurd h
-lt-whole (inf t) n m e h = absurd h
-lt-whole (fin true k d) n m e h = absurd (true≢false h.0)
-lt-whole (fin false k d) n m e h =
-    ap (λ (a : ℕ). ltb a (m * up e * down d)) (omega (arith, ap (λ (z : ℕ). z * down e) h.1)) ∙ ltb-scale (n * down e) (m * up e) (down d) (down_pos d)
+lt_whole nan n m e h = absurd h
+lt_whole (inf t) n m e h = absurd h
+lt_whole (fin true k d) n m e h = absurd (true≢false h.0)
+lt_whole (fin false k d) n m e h =
+    ap (λ (a : ℕ). ltb a (m * up e * down d)) (omega (arith, ap (λ (z : ℕ). z * down e) h.1)) ∙ ltb_scale (n * down e) (m * up e) (down d) (down_pos d)
 
 -- ---- x cut
 module _ (x : Float) (n : ℕ) (cut : n ≡ to_unsigned 64 x) where
-  pub cut-lt : Sized false x → n < 2 ^ 53
-  cut-lt (m, e, i, h) = rw (cut, i, cut_is m e h) (under_lt (suc m) e h)
+  pub cut_lt : Sized false x → n < 2 ^ 53
+  cut_lt (m, e, i, h) = rw (cut, i, cut_is m e h) (under_lt (suc m) e h)
 
-  pub cut-floor : Sized false x → of_int binary64 (pos n) ≡ floor x
+  pub cut_floor : Sized false x → of_int binary64 (pos n) ≡ floor x
   unfolding of_int floor under
-  cut-floor (m, e, i, h) = rw (cut, i, cut_is m e h) refl
+  cut_floor (m, e, i, h) = rw (cut, i, cut_is m e h) refl
 
-  pub cut-above : Sized false x → n + bool_byte (lt (of_int binary64 (pos n)) x) ≡ as_usize (ceil x)
+  pub cut_above : Sized false x → n + bool_byte (lt (of_int binary64 (pos n)) x) ≡ as_usize (ceil x)
   unfolding of_int
-  cut-above (m, e, i, h) =
+  cut_above (m, e, i, h) =
       let k = under (suc m) e in
       rw (cut, i, cut_is m e h)
-      (ap (λ (b : Bool). k + bool_byte b) (lt-whole (round binary64 false k 1) k (suc m) e (round_whole binary64 false k (le_of_lt (under_lt (suc m) e h)))) ∙ over_is (suc m) e ∙ sym (above-is m e h))
+      (ap (λ (b : Bool). k + bool_byte b) (lt_whole (round binary64 false k 1) k (suc m) e (round_whole binary64 false k (le_of_lt (under_lt (suc m) e h)))) ∙ over_is (suc m) e ∙ sym (above_is m e h))
 
 -- ---- the least whole number at least x
 module _ (x : Float) (n : ℕ) (above : n ≡ as_usize (ceil x)) where
-  pub above-le : Sized false x → n ≤ 2 ^ 53
-  above-le (m, e, i, h) = rw (above, i, above-is m e h) (over_le (suc m) e h)
+  pub above_le : Sized false x → n ≤ 2 ^ 53
+  above_le (m, e, i, h) = rw (above, i, above_is m e h) (over_le (suc m) e h)
 
-  pub above-ceil : Sized false x → pos n ≡ as_i64 (ceil x)
-  above-ceil (m, e, i, h) =
+  pub above_ceil : Sized false x → pos n ≡ as_i64 (ceil x)
+  above_ceil (m, e, i, h) =
       let k = over (suc m) e in
-      rw (above, i, above-is m e h) (ap pos (omega (arith, over_le (suc m) e h)) ∙ sym (signed_value (ceil (fin false (suc m) e)) false k (ceil_above m e h)))
+      rw (above, i, above_is m e h) (ap pos (omega (arith, over_le (suc m) e h)) ∙ sym (signed_value (ceil (fin false (suc m) e)) false k (ceil_above m e h)))
 
 -- ---- the least whole number at least -x
 module _ (x : Float) (n : ℕ) (above : n ≡ as_usize (ceil (neg x))) where
-  pub below-value : Sized true x → HasValue (floor x) true n 1
+  pub below_value : Sized true x → HasValue (floor x) true n 1
   unfolding neg
-  below-value (m, e, i, h) = rw (above, i, above-is m e h) (floor_below m e h)
+  below_value (m, e, i, h) = rw (above, i, above_is m e h) (floor_below m e h)
 
   pub below_floor : T (fits binary64 x) → Sized true x → neg (of_int binary64 (pos n)) ≡ floor x
   unfolding of_int
   below_floor t z =
       whole_unique binary64 (neg (round binary64 false n 1)) (floor x) true n (neg-fits binary64 (round binary64 false n 1) (round-fits binary64 false n 1)) (floor_fits x t)
-      (neg_value (round binary64 false n 1) false n 1 (round_whole binary64 false n (above-le (neg x) n above (neg_sized x z)))) (below-value z)
+      (neg_value (round binary64 false n 1) false n 1 (round_whole binary64 false n (above_le (neg x) n above (neg_sized x z)))) (below_value z)
 
-  pub below-cast : Sized true x → neg_ℤ (pos n) ≡ as_i64 (floor x)
-  below-cast z =
-      let capped : n ≡ min n (2 ^ 63) = omega (arith, above-le (neg x) n above (neg_sized x z)) in
-      ap (λ (k : ℕ). neg_ℤ (pos k)) capped ∙ sym (signed_value (floor x) true n (below-value z))
+  pub below_cast : Sized true x → neg_ℤ (pos n) ≡ as_i64 (floor x)
+  below_cast z =
+      let capped : n ≡ min n (2 ^ 63) = omega (arith, above_le (neg x) n above (neg_sized x z)) in
+      ap (λ (k : ℕ). neg_ℤ (pos k)) capped ∙ sym (signed_value (floor x) true n (below_value z))
 
 -- ---- the values that are their own floors
-pub floor-far-above : (x : Float) → T (fits binary64 x) → T (lt origin x) → T (not (lt x (bound false))) → x ≡ floor x
+pub floor_far_above : (x : Float) → T (fits binary64 x) → T (lt origin x) → T (not (lt x (bound false))) → x ≡ floor x
 unfolding floor lt
-floor-far-above nan t l h = refl
-floor-far-above (inf s) t l h = refl
-floor-far-above (fin true m e) t l h = absurd l
-floor-far-above (fin false zero e) t l h = refl
-floor-far-above (fin false (suc m) e) t l h = sym (floor_large false m e t (let k = nltb→le (suc m * up e * 1) (1 * 2 ^ 53 * down e) h in omega arith))
+floor_far_above nan t l h = refl
+floor_far_above (inf s) t l h = refl
+floor_far_above (fin true m e) t l h = absurd l
+floor_far_above (fin false zero e) t l h = refl
+floor_far_above (fin false (suc m) e) t l h = sym (floor_large false m e t (let k = nltb→le (suc m * up e * 1) (1 * 2 ^ 53 * down e) h in omega arith))
 
-pub floor-far-below : (x : Float) → T (fits binary64 x) → T (lt x origin) → T (not (lt (bound true) x)) → x ≡ floor x
+pub floor_far_below : (x : Float) → T (fits binary64 x) → T (lt x origin) → T (not (lt (bound true) x)) → x ≡ floor x
 unfolding floor lt
-floor-far-below nan t l h = refl
-floor-far-below (inf s) t l h = refl
-floor-far-below (fin false zero e) t l h = refl
-floor-far-below (fin false (suc m) e) t l h = let k = ltb→lt (suc m * up e * 1) (0 * down e) l in absurd (omega arith)
-floor-far-below (fin true zero e) t l h = refl
-floor-far-below (fin true (suc m) e) t l h = sym (floor_large true m e t (let k = nltb→le (suc m * up e * 1) (1 * 2 ^ 53 * down e) h in omega arith))
+floor_far_below nan t l h = refl
+floor_far_below (inf s) t l h = refl
+floor_far_below (fin false zero e) t l h = refl
+floor_far_below (fin false (suc m) e) t l h = let k = ltb→lt (suc m * up e * 1) (0 * down e) l in absurd (omega arith)
+floor_far_below (fin true zero e) t l h = refl
+floor_far_below (fin true (suc m) e) t l h = sym (floor_large true m e t (let k = nltb→le (suc m * up e * 1) (1 * 2 ^ 53 * down e) h in omega arith))
 
-pub floor-zero : (x : Float) → T (not (lt origin x)) → T (not (lt x origin)) → x ≡ floor x
+pub floor_zero : (x : Float) → T (not (lt origin x)) → T (not (lt x origin)) → x ≡ floor x
 unfolding floor
-floor-zero nan l h = refl
-floor-zero (inf s) l h = refl
-floor-zero (fin true zero e) l h = refl
-floor-zero (fin false zero e) l h = refl
-floor-zero (fin false (suc m) e) l h = absurd (T_not (lt origin (fin false (suc m) e)) l (positive_above m e))
-floor-zero (fin true (suc m) e) l h = absurd (T_not (lt (fin true (suc m) e) origin) h (negative_below m e))
+floor_zero nan l h = refl
+floor_zero (inf s) l h = refl
+floor_zero (fin true zero e) l h = refl
+floor_zero (fin false zero e) l h = refl
+floor_zero (fin false (suc m) e) l h = absurd (T_not (lt origin (fin false (suc m) e)) l (positive_above m e))
+floor_zero (fin true (suc m) e) l h = absurd (T_not (lt (fin true (suc m) e) origin) h (negative_below m e))

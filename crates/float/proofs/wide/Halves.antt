@@ -15,14 +15,14 @@ expand x y z w =
     simp (add-mul, mul-add) (rw (high, left, right) (omega arith))
 
 -- the product of two halves is at most (2 ^ 32 - 1) * (2 ^ 32 - 1), so it fits
-pub half-bound : (x y : ℕ) → x < B → y < B → x * y ≤ 0xffff_fffe_0000_0001
-half-bound x y h k =
+pub half_bound : (x y : ℕ) → x < B → y < B → x * y ≤ 0xffff_fffe_0000_0001
+half_bound x y h k =
     let p : x ≤ 0xffff_ffff = omega arith in
     let q : y ≤ 0xffff_ffff = omega arith in
     omega (arith, mul-le-mul p q)
 
 pub half_product : (x y : ℕ) → x < B → y < B → x * y < 2 ^ 64
-half_product x y h k = omega (arith, half-bound x y h k)
+half_product x y h k = omega (arith, half_bound x y h k)
 
 whole : (a b : ℕ) → a * b ≡ a / B * (b / B) * (B * B) + a / B * (b % B) * B + a % B * (b / B) * B + a % B * (b % B)
 whole a b =

@@ -17,14 +17,14 @@ neg_sign nan n = absurd n
 neg_sign (inf s) n = refl
 neg_sign (fin s m e) n = refl
 
-pub turned-pattern :
+pub turned_pattern :
     (x : Float) (b : Bool) → T (fits binary64 x) → Number x → (to_bits binary64 x + cond b 0 (2 ^ 63)) % 2 ^ 64 ≡ to_bits binary64 (cond b x (neg x))
-turned-pattern x false f n = rw (pattern_sign x, pattern_sign (neg x), abs_neg x, neg_sign x n) (turn (negative x) (to_bits binary64 (abs x)) (pattern_most x f n))
+turned_pattern x false f n = rw (pattern_sign x, pattern_sign (neg x), abs_neg x, neg_sign x n) (turn (negative x) (to_bits binary64 (abs x)) (pattern_most x f n))
   where
     turn : (s : Bool) (t : ℕ) → t ≤ 0x7ff0_0000_0000_0000 → (cond s (2 ^ 63) 0 + t + 2 ^ 63) % 2 ^ 64 ≡ cond (not s) (2 ^ 63) 0 + t
     turn true t h = omega arith
     turn false t h = omega arith
-turned-pattern x true f n = rw (pattern_sign x) (keep (negative x) (to_bits binary64 (abs x)) (pattern_most x f n))
+turned_pattern x true f n = rw (pattern_sign x) (keep (negative x) (to_bits binary64 (abs x)) (pattern_most x f n))
   where
     keep : (s : Bool) (t : ℕ) → t ≤ 0x7ff0_0000_0000_0000 → (cond s (2 ^ 63) 0 + t + 0) % 2 ^ 64 ≡ cond s (2 ^ 63) 0 + t
     keep true t h = omega arith
@@ -39,6 +39,6 @@ turned_number x true n = n
 turned_number x false n = neg_number x n
 
 -- it is no NaN's
-pub turned-no-nan :
+pub turned_no_nan :
     (x : Float) (b : Bool) → T (fits binary64 x) → Number x → T (not (nan_bits binary64 ((to_bits binary64 x + cond b 0 (2 ^ 63)) % 2 ^ 64)))
-turned-no-nan x b f n = rw (turned-pattern x b f n) (own_pattern (cond b x (neg x)) (turned_fits x b f) (turned_number x b n))
+turned_no_nan x b f n = rw (turned_pattern x b f n) (own_pattern (cond b x (neg x)) (turned_fits x b f) (turned_number x b n))

@@ -5,7 +5,7 @@ use borrow.Author.Rules.{rules}
 use lib.ListN.{length}
 use lib.Seq.{length-take-le}
 use Rattle.float.specs.Ops.{0ᶠ}
-use Rattle.plan.specs.CallLaws.{work_long, still_long, front_count, cleared_at, ends_lent, ends_work, ends-cleared}
+use Rattle.plan.specs.CallLaws.{work_long, still_long, front_count, cleared_at, ends_lent, ends_work, ends_cleared}
 use Rattle.plan.proofs.plan.Statement.{statement}
 use Rattle.plan.proofs.plan.Tie as tie
 
@@ -93,7 +93,7 @@ returns-3 c =
     let w = work_long (length a.first.now) (length a.second.now) (sym c.before.before.before.before.before.before.before.before.before.before.before.before.before.before.before.before.before.before.before.work-fault.ensures ∙ c.before.before.before.before.before.before.before.before.before.before.before.before.before.before.before.before.before.before.if2.false) in
     let one = cleared_at 8000 0ᶠ c.before.before.before.before.before.before.clear.new.0 c.before.before.before.before.before.before.before.before.before.before.before.before.before.before.plan-job.new.1.0 a.first.now c.before.before.before.before.before.before.clear.ensures w.0 c.before.before.before.before.before.before.before.before.before.before.before.before.before.first.given.0 in
     let two = cleared_at 8000 0ᶠ c.before.before.clear2.new.0 c.before.before.before.before.before.before.before.before.before.before.before.before.before.before.plan-job.new.1.1.0 a.second.now c.before.before.clear2.ensures w.1 c.before.before.before.before.before.before.before.before.before.before.before.second.given.0 in
-    let e = ends-cleared a.s.now a.first.now a.second.now a.sheet.now c.before.before.before.before.before.before.before.before.before.before.before.before.before.before.plan-job.result _ _ c.before.before.before.before.before.before.before.before.before.before.before.before.before.before.plan-job.new.1.1.1.0 (sym c.before.before.before.before.before.before.before.before.before.before.before.before.before.before.before.before.before.before.before.before.before.lent-fault.ensures ∙ c.before.before.before.before.before.before.before.before.before.before.before.before.before.before.before.before.before.before.before.before.if1.false) (sym c.before.before.before.before.before.before.before.before.before.before.before.before.before.before.before.before.before.before.before.work-fault.ensures ∙ c.before.before.before.before.before.before.before.before.before.before.before.before.before.before.before.before.before.before.if2.false) one two c.before.before.before.before.before.before.before.before.before.before.before.before.before.before.plan-job.ensures in
+    let e = ends_cleared a.s.now a.first.now a.second.now a.sheet.now c.before.before.before.before.before.before.before.before.before.before.before.before.before.before.plan-job.result _ _ c.before.before.before.before.before.before.before.before.before.before.before.before.before.before.plan-job.new.1.1.1.0 (sym c.before.before.before.before.before.before.before.before.before.before.before.before.before.before.before.before.before.before.before.before.before.lent-fault.ensures ∙ c.before.before.before.before.before.before.before.before.before.before.before.before.before.before.before.before.before.before.before.before.if1.false) (sym c.before.before.before.before.before.before.before.before.before.before.before.before.before.before.before.before.before.before.before.work-fault.ensures ∙ c.before.before.before.before.before.before.before.before.before.before.before.before.before.before.before.before.before.before.if2.false) one two c.before.before.before.before.before.before.before.before.before.before.before.before.before.before.plan-job.ensures in
     (e.answer, e.lent)
 
 pub plan-spec : {M : Type 1} → statement M

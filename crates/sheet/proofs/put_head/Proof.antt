@@ -1,6 +1,6 @@
 -- `put_head` writes what stands before the zones.
 -- Rests on what its calls ensure, part after part.
-use Rattle.sheet.specs.Laws.{put-sheet-head}
+use Rattle.sheet.specs.Laws.{put_sheet_head}
 use borrow.Author.Rules.{rules}
 use Rattle.sheet.proofs.put_head.Statement.{statement}
 use Rattle.sheet.proofs.put_head.Tie as tie
@@ -21,7 +21,7 @@ same_length : tie.Need-same-length
 same_length c = search rules
 
 returns : tie.Need-returns
-returns c = cc (put-sheet-head _ _ _ _)
+returns c = cc (put_sheet_head _ _ _ _)
 
 pub put-head-spec : {M : Type 1} → statement M
 put-head-spec =

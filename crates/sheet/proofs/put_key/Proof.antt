@@ -6,7 +6,7 @@ use native.Mathlib.Omega.{arith}
 use lib.ListN.{length, take, drop}
 use lib.ListN.{length-set}
 use lib.Seq.{sets}
-use Rattle.sheet.specs.Laws.{key-turn, key_end}
+use Rattle.sheet.specs.Laws.{key_turn, key_end}
 use borrow.Author.Rules.{rules}
 use Rattle.sheet.proofs.put_key.Statement.{statement}
 use Rattle.sheet.proofs.put_key.Tie as tie
@@ -43,7 +43,7 @@ loop-again : tie.Need-loop-preserved invariant-loop decreases-loop
 loop-again c =
     let l = c.before.before.loop in
     let s = c.before.before.before.args.s.now in
-    (simp length-set (omega arith), omega arith, search rules, key-turn l.sheet l.at s l.k l.left (omega arith) (omega arith) l.invariant.3)
+    (simp length-set (omega arith), omega arith, search rules, key_turn l.sheet l.at s l.k l.left (omega arith) (omega arith) l.invariant.3)
 
 same_length : tie.Need-same-length invariant-loop decreases-loop
 same_length c = search rules

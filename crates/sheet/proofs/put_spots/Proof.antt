@@ -7,7 +7,7 @@ use lib.ListN.{length, drop}
 use lib.Seq.{sets}
 use mathlib.Core.List.{flat_map}
 use Rattle.format.specs.Numbers.{float_bytes}
-use Rattle.sheet.specs.Laws.{spots-turn, spots_end}
+use Rattle.sheet.specs.Laws.{spots_turn, spots_end}
 use borrow.Author.Rules.{rules}
 use Rattle.sheet.proofs.put_spots.Statement.{statement}
 use Rattle.sheet.proofs.put_spots.Tie as tie
@@ -44,7 +44,7 @@ loop-again : tie.Need-loop-preserved invariant-loop decreases-loop
 loop-again c =
     let l = c.before.before.before.before.before.before.loop in
     let spots = c.before.before.before.before.before.before.before.before.before.args.spots.now in
-    (omega arith, omega arith, search rules, rw c.before.before.put-float.ensures (spots-turn l.sheet l.at spots l.i _ (omega arith) l.invariant.3))
+    (omega arith, omega arith, search rules, rw c.before.before.put-float.ensures (spots_turn l.sheet l.at spots l.i _ (omega arith) l.invariant.3))
 
 same_length : tie.Need-same-length invariant-loop decreases-loop
 same_length c = search rules

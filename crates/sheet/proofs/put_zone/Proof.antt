@@ -3,7 +3,7 @@
 use mathlib.Core.Path.{◌≡◌, refl}
 use native.Mathlib.Omega.{arith}
 use lib.ListN.{length, take, drop}
-use Rattle.sheet.specs.Laws.{put-zone-head}
+use Rattle.sheet.specs.Laws.{put_zone_head}
 use Rattle.format.specs.NumberLaws.{length_part}
 use borrow.Author.Rules.{rules}
 use Rattle.sheet.proofs.put_zone.Statement.{statement}
@@ -53,7 +53,7 @@ returns c =
     let a = c.before.before.before.before.before.before.before.before.before.before.before.before.before.before.before.before.before.before.args in
     let k = take a.n (drop a.key a.s.now) in
     let e : length k ≡ a.n = length_part a.s.now a.key a.n (omega arith) in
-    (refl, cc (put-zone-head a.sheet.now a.at k a.placed a.unplaced))
+    (refl, cc (put_zone_head a.sheet.now a.at k a.placed a.unplaced))
 
 pub put-zone-spec : {M : Type 1} → statement M
 put-zone-spec =

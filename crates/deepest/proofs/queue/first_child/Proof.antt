@@ -2,7 +2,7 @@
 -- Rests on the laws of the order of leaving.
 use Rattle.std.proofs.Common.{arith, rules}
 use Rattle.deepest.specs.Cells.{cell_at}
-use Rattle.deepest.specs.Heap.{first-left, first-right}
+use Rattle.deepest.specs.Heap.{first_left, first_right}
 use Rattle.deepest.proofs.queue.first_child.Statement.{statement}
 use Rattle.deepest.proofs.queue.first_child.Tie as tie
 
@@ -15,17 +15,17 @@ get-requires-2 c κs = (omega arith, c.before.before.before.before.requires.2 _ 
 returns : tie.Need-returns
 returns c =
     let a = c.before.before.before.before.before.before.before.args in
-    first-right a.halves.now (cell_at a.cells.now) a.n a.i c.before.before.before.before.if1.true (cc)
+    first_right a.halves.now (cell_at a.cells.now) a.n a.i c.before.before.before.before.if1.true (cc)
 
 returns-2 : tie.Need-returns-2
 returns-2 c =
     let a = c.before.before.before.before.before.before.before.args in
-    first-left a.halves.now (cell_at a.cells.now) a.n a.i (omega arith) (λ l. cc)
+    first_left a.halves.now (cell_at a.cells.now) a.n a.i (omega arith) (λ l. cc)
 
 returns-3 : tie.Need-returns-3
 returns-3 c =
     let a = c.before.before.before.args in
-    first-left a.halves.now (cell_at a.cells.now) a.n a.i (omega arith) (λ l. absurd (omega arith))
+    first_left a.halves.now (cell_at a.cells.now) a.n a.i (omega arith) (λ l. absurd (omega arith))
 
 pub first-child-spec : {M : Type 1} → statement M
 first-child-spec =

@@ -5,7 +5,7 @@ use borrow.Author.Tests.{not-true, not-false}
 use Rattle.deepest.specs.Order.{leaves}
 use Rattle.deepest.specs.Cells.{Tagged, cell_at, put_cell}
 use Rattle.deepest.specs.Queue.{Queue, Popped}
-use Rattle.deepest.specs.Sift.{Sinking, sinking_start, sinking-step, sinking-done, no-child-first, popped_last}
+use Rattle.deepest.specs.Sift.{Sinking, sinking_start, sinking_step, sinking_done, no_child_first, popped_last}
 use Rattle.deepest.proofs.queue.pop.Statement.{statement}
 use Rattle.deepest.proofs.queue.pop.Tie as tie
 
@@ -77,7 +77,7 @@ returns-2 c =
     let h : leaves a.halves.now (cell_at l.cells c.before.before.before.before.before.before.before.before.first-child.result) c.before.before.before.before.before.before.before.before.before.before.before.before.get2.result ≡ false = cc in
     rw c.before.before.put.ensures
     (subst (λ (k : ℕ). Popped a.halves.now a.cells.now k c.before.before.before.before.before.before.before.before.before.before.before.before.before.before.before.get.result (put_cell l.cells l.i c.before.before.before.before.before.before.before.before.before.before.before.before.get2.result)) (sym l.invariant.0)
-    (sinking-done _ _ _ _ _ _ _ l.invariant.3 l.invariant.2 (no-child-first _ _ _ _ _ _ c.before.before.before.before.before.before.before.before.first-child.ensures h) l.invariant.1))
+    (sinking_done _ _ _ _ _ _ _ l.invariant.3 l.invariant.2 (no_child_first _ _ _ _ _ _ c.before.before.before.before.before.before.before.before.first-child.ensures h) l.invariant.1))
 
 put-requires-2 : tie.Need-put-requires-2 invariant-loop decreases-loop
 put-requires-2 c κs =
@@ -108,7 +108,7 @@ loop-again c =
       l.invariant.0,
       l.invariant.1,
       l.invariant.2,
-      rw (c.before.before.put2.ensures, c.before.before.before.before.before.before.get3.ensures) (sinking-step _ _ _ _ _ _ _ l.invariant.3 _ c.before.before.before.before.before.before.before.before.first-child.ensures h),
+      rw (c.before.before.put2.ensures, c.before.before.before.before.before.before.get3.ensures) (sinking_step _ _ _ _ _ _ _ l.invariant.3 _ c.before.before.before.before.before.before.before.before.first-child.ensures h),
     )
 
 put-requires-3 : tie.Need-put-requires-3 invariant-loop decreases-loop
@@ -125,7 +125,7 @@ returns-3 c =
     let a = c.before.before.before.before.before.before.before.before.before.before.before.before.before.args in
     rw c.before.before.put3.ensures
     (subst (λ (k : ℕ). Popped a.halves.now a.cells.now k c.before.before.before.before.before.before.before.before.before.get.result (put_cell l.cells l.i c.before.before.before.before.before.before.get2.result)) (sym l.invariant.0)
-    (sinking-done _ _ _ _ _ _ _ l.invariant.3 l.invariant.2 (λ k z b p. absurd (omega arith)) l.invariant.1))
+    (sinking_done _ _ _ _ _ _ _ l.invariant.3 l.invariant.2 (λ k z b p. absurd (omega arith)) l.invariant.1))
 
 pub pop_spec : {M : Type 1} → statement M
 pop_spec =

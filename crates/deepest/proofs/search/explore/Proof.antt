@@ -6,7 +6,7 @@ use Rattle.deepest.specs.Cells.{cell_at}
 use Rattle.deepest.specs.Queue.{total}
 use Rattle.deepest.specs.Deepest.{heft, better_of, splits_at}
 use Rattle.deepest.specs.Turns.{nodes_pos, nodes_split}
-use Rattle.deepest.specs.Search.{Searching, search-start, search_keep, search-split, search-full, search_room, search-done, lighter}
+use Rattle.deepest.specs.Search.{Searching, search_start, search_keep, search_split, search_full, search_room, search_done, lighter}
 use Rattle.deepest.proofs.search.explore.Statement.{statement}
 use Rattle.deepest.proofs.search.explore.Tie as tie
 
@@ -21,7 +21,7 @@ abbrev decreases-loop : tie.decreases-loop
 decreases-loop cells₀ start halves precision sizes coords room m₀ entry₀ best₀ cells m entry best = total heft (cell_at cells) m
 
 loop-holds : tie.Need-loop-init invariant-loop decreases-loop
-loop-holds c = (search rules, search-start _ _ _ _ _ _ _ c.before.before.before.before.requires.2 c.before.before.before.before.requires.3)
+loop-holds c = (search rules, search_start _ _ _ _ _ _ _ c.before.before.before.before.requires.2 c.before.before.before.before.requires.3)
 
 pop-requires : tie.Need-pop-requires invariant-loop decreases-loop
 pop-requires c κs = (c.before.before.loop.invariant.1.queue, c.before.loop-test.true)
@@ -35,7 +35,7 @@ returns c =
     let a = c.before.before.before.before.before.before.before.before.before.before.before.before.before.before.args in
     let some : l.m ≡ l.m - 1 + 1 = omega arith in
     let e : splits_at a.halves.now a.precision c.before.before.before.before.before.before.pop.result (better_of l.best c.before.before.before.before.before.before.pop.result) ≡ true = cc c.before.before.splits.ensures.0 in
-    record { answer = λ q w. sym (search-full _ _ _ _ _ _ _ _ _ _ _ l.invariant.1 _ _ _ some c.before.before.before.before.before.before.pop.ensures e (omega (arith, l.invariant.0)) q w) }
+    record { answer = λ q w. sym (search_full _ _ _ _ _ _ _ _ _ _ _ l.invariant.1 _ _ _ some c.before.before.before.before.before.before.pop.ensures e (omega (arith, l.invariant.0)) q w) }
 
 push-four-requires : tie.Need-push-four-requires invariant-loop decreases-loop
 push-four-requires c κs =
@@ -65,7 +65,7 @@ loop-again c =
     let k = c.before.before.before.before.before.before.splits.ensures.1 c.before.before.before.before.before.if1.true in
     let d = l.invariant.0 in (
       d,
-      rw c.before.before.before.before.before.before.before.better.ensures (search-split _ _ _ _ _ _ _ _ _ _ _ l.invariant.1 _ _ _ some c.before.before.before.before.before.before.before.before.before.before.pop.ensures _ e k (omega arith) c.before.before.push-four.ensures),
+      rw c.before.before.before.before.before.before.before.better.ensures (search_split _ _ _ _ _ _ _ _ _ _ _ l.invariant.1 _ _ _ some c.before.before.before.before.before.before.before.before.before.before.pop.ensures _ e k (omega arith) c.before.before.push-four.ensures),
     )
 
 loop-less-2 : tie.Need-loop-smaller-2 invariant-loop decreases-loop
@@ -86,7 +86,7 @@ loop-again-2 c =
 returns-2 : tie.Need-returns-2 invariant-loop decreases-loop
 returns-2 c =
     let l = c.before.before.loop in
-    record { answer = λ q w. c.answer.ensures ∙ sym (search-done _ _ _ _ _ _ _ _ _ _ _ l.invariant.1 (omega arith) q w) }
+    record { answer = λ q w. c.answer.ensures ∙ sym (search_done _ _ _ _ _ _ _ _ _ _ _ l.invariant.1 (omega arith) q w) }
 
 pub explore-spec : {M : Type 1} → statement M
 explore-spec =

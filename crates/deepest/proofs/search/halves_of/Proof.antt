@@ -1,7 +1,7 @@
 -- `halves_of` meets its contract. The invariant: the entries written, and those which follow from `h`, are the table.
 -- Rests on the kit's laws of `take` and `set`.
 use Rattle.std.proofs.Common.{◌≡◌, ◌-◌, ◌≤◌, ◌++◌, length, take, sym, refl, ◌∙◌, arith, rules}
-use Rattle.deepest.specs.Order.{halves_from, halves-step, halves_done}
+use Rattle.deepest.specs.Order.{halves_from, halves_step, halves_done}
 use Rattle.deepest.proofs.search.halves_of.Statement.{statement}
 use Rattle.deepest.proofs.search.halves_of.Tie as tie
 
@@ -17,7 +17,7 @@ loop-holds c = (search rules, search rules, refl)
 loop-again : tie.Need-loop-preserved invariant-loop decreases-loop
 loop-again c =
     let l = c.before.loop in
-    (search rules, search rules, l.invariant.2 ∙ halves-step l.halves l.h 22 l.k (omega arith) c.loop-test.true)
+    (search rules, search rules, l.invariant.2 ∙ halves_step l.halves l.h 22 l.k (omega arith) c.loop-test.true)
 
 returns : tie.Need-returns invariant-loop decreases-loop
 returns c =

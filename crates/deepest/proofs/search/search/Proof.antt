@@ -2,7 +2,7 @@
 -- Rests on the contracts of the three.
 use Rattle.std.proofs.Common.{sym, arith, rules}
 use Rattle.deepest.specs.Deepest.{centre_of}
-use Rattle.deepest.specs.Plant.{seeds_over, seeds_some, search_over, search-some, light}
+use Rattle.deepest.specs.Plant.{seeds_over, seeds_some, search_over, search_some, light}
 use Rattle.deepest.proofs.search.search.Statement.{statement}
 use Rattle.deepest.proofs.search.search.Tie as tie
 
@@ -18,7 +18,7 @@ returns-2 : tie.Need-returns-2
 unfolding centre_of
 returns-2 c =
     let p = seeds_some _ _ _ _ _ c.before.before.before.before.before.before.before.before.before.before.seed.ensures c.before.before.before.before.before.before.seeded.given.1 in
-    search-some _ _ _ _ _ _ c.before.before.before.before.before.before.before.before.before.before.before.before.before.before.before.before.halves_of.ensures _ _ _ _ (omega arith) p (cc) c.before.before.explore.ensures
+    search_some _ _ _ _ _ _ c.before.before.before.before.before.before.before.before.before.before.before.before.before.before.before.before.halves_of.ensures _ _ _ _ (omega arith) p (cc) c.before.before.explore.ensures
 
 pub search-spec : {M : Type 1} → statement M
 search-spec =

@@ -4,7 +4,7 @@ use Rattle.std.proofs.Common.{◌≡◌, ◌-◌, ◌/◌, length, refl, ◌∙�
 use Rattle.regions.specs.Ring.{piece_of}
 use Rattle.deepest.specs.Order.{half_at}
 use Rattle.deepest.specs.Deepest.{first_corner}
-use Rattle.deepest.specs.Plant.{Planting, plant_start, plant_over, plant-step, plant_end}
+use Rattle.deepest.specs.Plant.{Planting, plant_start, plant_over, plant_step, plant_end}
 use Rattle.deepest.proofs.seeds.seed.Statement.{statement}
 use Rattle.deepest.proofs.seeds.seed.Tie as tie
 
@@ -43,7 +43,7 @@ loop-again c =
       c.before.before.before.enter-cell.ensures.long ∙ l.invariant.1,
       l.invariant.2,
       rw c.next-corner.ensures
-          (plant-step _ _ _ _ _ _ _ _ l.invariant.3 _ _ _ (omega arith) c.before.before.before.before.before.before.before.before.loop-test.true (rw l.invariant.2) (rw l.invariant.2) c.before.before.before.enter-cell.ensures),
+          (plant_step _ _ _ _ _ _ _ _ l.invariant.3 _ _ _ (omega arith) c.before.before.before.before.before.before.before.before.loop-test.true (rw l.invariant.2) (rw l.invariant.2) c.before.before.before.enter-cell.ensures),
     )
 
 returns-2 : tie.Need-returns-2 invariant-loop decreases-loop

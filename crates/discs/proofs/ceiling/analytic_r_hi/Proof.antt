@@ -6,7 +6,7 @@ use Rattle.float.specs.Ops.{∞}
 use Rattle.glyphs.specs.Rect.{infinite}
 use Rattle.discs.specs.Radius.{if_positive}
 use Rattle.discs.specs.Floor.{handed_from, handed_work, work_in, lowered_by, handed_r_hi, EachRow, Stands}
-use Rattle.discs.proofs.Zones.{ceiling-turn, handed_end, each_turn}
+use Rattle.discs.proofs.Zones.{ceiling_turn, handed_end, each_turn}
 use Rattle.discs.proofs.ceiling.analytic_r_hi.Statement.{statement}
 use Rattle.discs.proofs.ceiling.analytic_r_hi.Tie as tie
 
@@ -52,7 +52,7 @@ loop-again c =
       rw (c.past_row.ensures, g) o.1,
       λ s quotas.
           l.invariant.2 s quotas
-          ∙ ceiling-turn s a.rings.now a.sizes.now a.coords.now quotas a.deepest.now a.rows.now l.z a.n l.at a.gap l.r-hi c.before.before.before.loop-test.true
+          ∙ ceiling_turn s a.rings.now a.sizes.now a.coords.now quotas a.deepest.now a.rows.now l.z a.n l.at a.gap l.r-hi c.before.before.before.loop-test.true
           ∙ rw (c.before.Lowered-by.ensures s quotas, c.past_row.ensures, g),
     )
 

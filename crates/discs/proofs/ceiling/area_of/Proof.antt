@@ -8,8 +8,8 @@ use Rattle.regions.specs.Area.{minus_zero}
 use Rattle.discs.specs.Region.{areas}
 use Rattle.discs.specs.Radius.{area_of}
 use Rattle.discs.specs.Pieces.{pieces_of, Laid}
-use Rattle.discs.proofs.Turns.{laid-turn, pieces_end}
-use Rattle.discs.proofs.Zones.{part_is, piece_lies, piece_after, area-turn}
+use Rattle.discs.proofs.Turns.{laid_turn, pieces_end}
+use Rattle.discs.proofs.Zones.{part_is, piece_lies, piece_after, area_turn}
 use Rattle.discs.proofs.ceiling.area_of.Statement.{statement}
 use Rattle.discs.proofs.ceiling.area_of.Tie as tie
 
@@ -38,7 +38,7 @@ add-b : tie.Need-overflow-add-b invariant-loop decreases-loop
 add-b c =
     let l = c.before.before.loop in
     let a = c.before.before.before.before.before.before.args in
-    let o = laid-turn a.rings.now a.sizes.now a.coords.now l.k l.a l.c c.before.loop-test.true l.invariant.3 in
+    let o = laid_turn a.rings.now a.sizes.now a.coords.now l.k l.a l.c c.before.loop-test.true l.invariant.3 in
     record { fits = omega (arith, o.0.sized, length-drop l.a a.sizes.now) }
 
 mul-piece : tie.Need-overflow-mul-piece invariant-loop decreases-loop
@@ -54,7 +54,7 @@ part-piece-end : tie.Need-slice-bounds-piece-end invariant-loop decreases-loop
 part-piece-end c =
     let l = c.before.before.loop in
     let a = c.before.before.before.before.before.before.args in
-    let o = laid-turn a.rings.now a.sizes.now a.coords.now l.k l.a l.c c.before.loop-test.true l.invariant.3 in
+    let o = laid_turn a.rings.now a.sizes.now a.coords.now l.k l.a l.c c.before.loop-test.true l.invariant.3 in
     omega (arith, o.0.sized, length-drop l.a a.sizes.now, l.invariant.1)
 
 mul-own : tie.Need-overflow-mul-own invariant-loop decreases-loop
@@ -73,21 +73,21 @@ piece-area-requires : tie.Need-piece-area-requires invariant-loop decreases-loop
 piece-area-requires c κs =
     let l = c.before.before.before.before.loop in
     let a = c.before.before.before.before.before.before.before.before.args in
-    let o = laid-turn a.rings.now a.sizes.now a.coords.now l.k l.a l.c c.before.before.before.loop-test.true l.invariant.3 in
+    let o = laid_turn a.rings.now a.sizes.now a.coords.now l.k l.a l.c c.before.before.before.loop-test.true l.invariant.3 in
     piece_lies l.a l.c (get_or a.rings.now l.k 0) a.sizes.now a.coords.now o.0
 
 coords-in-requires : tie.Need-coords-in-requires invariant-loop decreases-loop
 coords-in-requires c κs =
     let l = c.before.before.before.before.before.loop in
     let a = c.before.before.before.before.before.before.before.before.before.args in
-    let o = laid-turn a.rings.now a.sizes.now a.coords.now l.k l.a l.c c.before.before.before.before.loop-test.true l.invariant.3 in
+    let o = laid_turn a.rings.now a.sizes.now a.coords.now l.k l.a l.c c.before.before.before.before.loop-test.true l.invariant.3 in
     (piece_lies l.a l.c (get_or a.rings.now l.k 0) a.sizes.now a.coords.now o.0).1
 
 add-c : tie.Need-overflow-add-c invariant-loop decreases-loop
 add-c c =
     let l = c.before.before.before.before.before.before.loop in
     let a = c.before.before.before.before.before.before.before.before.before.before.args in
-    let o = laid-turn a.rings.now a.sizes.now a.coords.now l.k l.a l.c c.before.before.before.before.before.loop-test.true l.invariant.3 in
+    let o = laid_turn a.rings.now a.sizes.now a.coords.now l.k l.a l.c c.before.before.before.before.before.loop-test.true l.invariant.3 in
     record { fits = omega (arith, c.coords-in.ensures, piece_after l.a l.c (get_or a.rings.now l.k 0) a.sizes.now a.coords.now o.0 l.invariant.2) }
 
 add-k : tie.Need-overflow-add-k invariant-loop decreases-loop
@@ -100,13 +100,13 @@ loop-again : tie.Need-loop-preserved invariant-loop decreases-loop
 loop-again c =
     let l = c.before.before.before.before.before.before.loop in
     let a = c.before.before.before.before.before.before.before.before.before.before.args in
-    let o = laid-turn a.rings.now a.sizes.now a.coords.now l.k l.a l.c c.before.before.before.before.before.loop-test.true l.invariant.3 in
+    let o = laid_turn a.rings.now a.sizes.now a.coords.now l.k l.a l.c c.before.before.before.before.before.loop-test.true l.invariant.3 in
     let e : c.coords-in.result ≡ sum (take (get_or a.rings.now l.k 0) (drop l.a a.sizes.now)) * 2 = c.coords-in.ensures ∙ rw (part_is l.a (get_or a.rings.now l.k 0) a.sizes.now) in (
       search rules,
       omega (arith, o.0.sized, length-drop l.a a.sizes.now, l.invariant.1),
       omega (arith, c.coords-in.ensures, piece_after l.a l.c (get_or a.rings.now l.k 0) a.sizes.now a.coords.now o.0 l.invariant.2),
       rw e o.1,
-      l.invariant.4 ∙ area-turn a.rings.now a.sizes.now a.coords.now l.k l.a l.c _ _ l.area c.before.before.before.before.before.loop-test.true c.before.piece-area.ensures c.coords-in.ensures,
+      l.invariant.4 ∙ area_turn a.rings.now a.sizes.now a.coords.now l.k l.a l.c _ _ l.area c.before.before.before.before.before.loop-test.true c.before.piece-area.ensures c.coords-in.ensures,
     )
 
 returns : tie.Need-returns invariant-loop decreases-loop

@@ -5,7 +5,7 @@ use borrow.Author.Tests.{not-true, not-false}
 use Rattle.discs.specs.Floor.{handed_at, lowered_by}
 use Rattle.discs.specs.Walk.{lowering}
 use Rattle.discs.proofs.Written.{rest_is}
-use Rattle.discs.proofs.Zones.{part_is, left_in, laid-parts, points_part}
+use Rattle.discs.proofs.Zones.{part_is, left_in, laid_parts, points_part}
 use Rattle.discs.proofs.ceiling.lowered_by.Statement.{statement}
 use Rattle.discs.proofs.ceiling.lowered_by.Tie as tie
 
@@ -65,7 +65,7 @@ area-of-requires : tie.Need-area-of-requires
 area-of-requires c κs =
     let a = c.before.before.before.before.before.before.before.before.before.before.args in
     let h = c.before.before.before.before.before.before.before.before.before.before.requires in
-    laid-parts [] a.rings.now a.sizes.now a.coords.now [] a.deepest.now a.row a.at h
+    laid_parts [] a.rings.now a.sizes.now a.coords.now [] a.deepest.now a.row a.at h
 
 mul-deepest-in : tie.Need-overflow-mul-deepest-in
 mul-deepest-in c = record { fits = omega (arith, c.before.before.before.before.before.before.before.before.before.before.before.requires.pieces, c.before.before.before.before.before.before.before.before.before.before.before.requires.ring, c.before.before.before.before.before.before.before.before.before.before.before.requires.coord, c.before.before.before.before.before.before.before.before.before.before.before.requires.points) }

@@ -3,7 +3,7 @@
 use Rattle.std.proofs.Common.{rules}
 use Rattle.glyphs.specs.Rect.{rectangles}
 use Rattle.regions.specs.Ring.{piece_of}
-use Rattle.discs.proofs.Packed.{packs_none, packs-written, packs-trial, lattice_none, lattice-at, trial-few}
+use Rattle.discs.proofs.Packed.{packs_none, packs_written, packs_trial, lattice_none, lattice_at, trial_few}
 use Rattle.discs.proofs.piece.pack_lattice.Statement.{statement}
 use Rattle.discs.proofs.piece.pack_lattice.Tie as tie
 
@@ -19,8 +19,8 @@ returns-2 c =
     let f = c.before.before.before.before.before.before.before.before.before.before.before.before.found.given in
     let s = c.before.before.before.before.before.before.before.before.before.before.before.before.before.before.before.before.before.before.before.before in
     let a = s.args in
-    packs-written a.ctx.mode a.n _ _ r.result _ a.spots.now
-    (lattice-at (piece_of a.sizes.now a.coords.now) a.n a.ctx (rectangles a.obstacles.now) a.found a.rectangular f.0.0 f.0.1.0 f.0.1.1.0 f.1)
+    packs_written a.ctx.mode a.n _ _ r.result _ a.spots.now
+    (lattice_at (piece_of a.sizes.now a.coords.now) a.n a.ctx (rectangles a.obstacles.now) a.found a.rectangular f.0.0 f.0.1.0 f.0.1.1.0 f.1)
     r.ensures.0 r.ensures.1 (search rules) s.requires.5
 
 probe-uniform-piece-requires : tie.Need-probe-uniform-piece-requires
@@ -37,9 +37,9 @@ returns-3 c =
     let s = c.before.before.before.before.before.before.before.before.before.before.before.before.before.before in
     let a = s.args in
     let piece = piece_of a.sizes.now a.coords.now in
-    packs-trial a.ctx.mode a.n _ _ r.result _ a.spots.now t
-    (lattice-at piece a.n a.ctx (rectangles a.obstacles.now) a.found a.rectangular f.0.0 f.0.1.0 f.0.1.1.0 f.1)
-    r.ensures (trial-few piece a.n a.ctx (rectangles a.obstacles.now) a.found a.rectangular t (s.requires.6 t))
+    packs_trial a.ctx.mode a.n _ _ r.result _ a.spots.now t
+    (lattice_at piece a.n a.ctx (rectangles a.obstacles.now) a.found a.rectangular f.0.0 f.0.1.0 f.0.1.1.0 f.1)
+    r.ensures (trial_few piece a.n a.ctx (rectangles a.obstacles.now) a.found a.rectangular t (s.requires.6 t))
 
 pub pack-lattice-spec : {M : Type 1} → statement M
 pack-lattice-spec =

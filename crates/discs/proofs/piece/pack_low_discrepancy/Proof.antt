@@ -3,7 +3,7 @@
 use Rattle.std.proofs.Common.{rules}
 use Rattle.glyphs.specs.Rect.{rectangles}
 use Rattle.regions.specs.Ring.{piece_of}
-use Rattle.discs.proofs.Packed.{packs-written, low_none, low-at}
+use Rattle.discs.proofs.Packed.{packs_written, low_none, low_at}
 use Rattle.discs.proofs.piece.pack_low_discrepancy.Statement.{statement}
 use Rattle.discs.proofs.piece.pack_low_discrepancy.Tie as tie
 
@@ -12,7 +12,7 @@ returns c =
     let r = c.before.before.before.before.pack-low-discrepancy-piece in
     let s = c.before.before.before.before.before.before.before.before.before.before.before.before.before in
     let a = s.args in
-    packs-written a.ctx.mode a.n _ _ r.result _ a.spots.now
+    packs_written a.ctx.mode a.n _ _ r.result _ a.spots.now
     (low_none (piece_of a.sizes.now a.coords.now) a.n a.ctx (rectangles a.obstacles.now) a.found c.before.before.before.before.before.before.before.match.keys2)
     r.ensures.0 r.ensures.1 (search rules) s.requires.3
 
@@ -22,8 +22,8 @@ returns-2 c =
     let f = c.before.before.before.before.before.before.before.before.before.before.before.before.found.given in
     let s = c.before.before.before.before.before.before.before.before.before.before.before.before.before.before.before.before.before.before.before in
     let a = s.args in
-    packs-written a.ctx.mode a.n _ _ r.result _ a.spots.now
-    (low-at (piece_of a.sizes.now a.coords.now) a.n a.ctx (rectangles a.obstacles.now) a.found f.0.0 f.0.1.0 f.0.1.1.0 _ f.1 c.before.before.before.before.before.before.before.before.before.lone-anchor.ensures)
+    packs_written a.ctx.mode a.n _ _ r.result _ a.spots.now
+    (low_at (piece_of a.sizes.now a.coords.now) a.n a.ctx (rectangles a.obstacles.now) a.found f.0.0 f.0.1.0 f.0.1.1.0 _ f.1 c.before.before.before.before.before.before.before.before.before.lone-anchor.ensures)
     r.ensures.0 r.ensures.1 (search rules) s.requires.3
 
 pub pack-low-discrepancy-spec : {M : Type 1} → statement M

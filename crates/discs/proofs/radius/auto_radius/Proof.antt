@@ -4,7 +4,7 @@ use Rattle.std.proofs.Common.{◌≡◌, ◌-◌, ◌≤◌, length, sym, ◌∙
 use Rattle.glyphs.specs.Rect.{rectangles}
 use Rattle.discs.specs.Radius.{auto_radius}
 use Rattle.discs.specs.Floor.{work_in, handed_feasible}
-use Rattle.discs.proofs.Halving.{left, halve_end, halve_stop, halve-turn}
+use Rattle.discs.proofs.Halving.{left, halve_end, halve_stop, halve_turn}
 use Rattle.discs.proofs.radius.auto_radius.Statement.{statement}
 use Rattle.discs.proofs.radius.auto_radius.Tie as tie
 
@@ -55,7 +55,7 @@ loop-again c =
       search rules,
       search rules,
       l.invariant.6
-          ∙ halve-turn (handed_feasible a.numbers a.options (work_in a.s.now a.n a.rows.now a.rings.now a.sizes.now a.coords.now a.quotas.now a.deepest.now) (rectangles a.obstacles.now)) a.r-hi l.b l.made c.before.before.before.before.before.before.before.before.before.before.before.before.before.before.before.before.before.loop-test.true c.before.before.before.before.before.before.before.before.before.before.before.before.before.before.before.if2.false
+          ∙ halve_turn (handed_feasible a.numbers a.options (work_in a.s.now a.n a.rows.now a.rings.now a.sizes.now a.coords.now a.quotas.now a.deepest.now) (rectangles a.obstacles.now)) a.r-hi l.b l.made c.before.before.before.before.before.before.before.before.before.before.before.before.before.before.before.before.before.loop-test.true c.before.before.before.before.before.before.before.before.before.before.before.before.before.before.before.if2.false
           ∙ rw (c.narrowed.ensures, c.before.before.before.before.before.before.before.before.before.feasible2.ensures),
     )
 

@@ -7,7 +7,7 @@ use Rattle.glyphs.specs.Rect.{rectangles}
 use Rattle.discs.specs.Radius.{context_at, probe}
 use Rattle.discs.specs.Floor.{row_of, handed_at, handed_from, handed_work, work_in, holds_all, handed_feasible, EachRow, Packable}
 use Rattle.discs.specs.Walk.{holding}
-use Rattle.discs.proofs.Zones.{trial-turn, handed_end, each_turn}
+use Rattle.discs.proofs.Zones.{trial_turn, handed_end, each_turn}
 use Rattle.discs.proofs.trial.feasible.Statement.{statement}
 use Rattle.discs.proofs.trial.feasible.Tie as tie
 
@@ -49,7 +49,7 @@ returns c =
     let o = each_turn a.rows.now a.rings.now a.sizes.now (Packable a.s.now a.rings.now a.sizes.now a.coords.now a.quotas.now a.deepest.now) l.z a.n l.at c.before.before.before.before.before.before.before.before.before.before.before.before.before.before.before.loop-test.true l.invariant.1 in
     let held : c.before.before.before.before.before.before.before.before.before.holds.result ≡ holding a.numbers a.options (context_at a.options probe a.r) (rectangles a.obstacles.now) (handed_at a.s.now a.rings.now a.sizes.now a.coords.now a.quotas.now a.deepest.now (row_of a.rows.now l.z) l.at) =
     c.before.before.before.before.before.before.before.before.before.holds.ensures ∙ rw (c.before.before.before.before.before.before.before.before.before.before.before.before.before.before.before.before.before.context-at.ensures, c.before.before.before.before.before.before.before.before.before.before.before.before.before.before.get-row.ensures) in
-    sym (l.invariant.6 ∙ trial-turn a.s.now a.rings.now a.sizes.now a.coords.now a.quotas.now a.deepest.now a.rows.now l.z a.n l.at a.numbers a.options (context_at a.options probe a.r) (rectangles a.obstacles.now) c.before.before.before.before.before.before.before.before.before.before.before.before.before.before.before.loop-test.true ∙ rw (← held, not-true c.before.before.before.before.before.before.before.before.before.holds.result c.if1.true))
+    sym (l.invariant.6 ∙ trial_turn a.s.now a.rings.now a.sizes.now a.coords.now a.quotas.now a.deepest.now a.rows.now l.z a.n l.at a.numbers a.options (context_at a.options probe a.r) (rectangles a.obstacles.now) c.before.before.before.before.before.before.before.before.before.before.before.before.before.before.before.loop-test.true ∙ rw (← held, not-true c.before.before.before.before.before.before.before.before.before.holds.result c.if1.true))
 
 past-row-requires : tie.Need-past-row-requires invariant-loop decreases-loop
 past-row-requires c κs =
@@ -79,7 +79,7 @@ loop-again c =
       search rules,
       search rules,
       l.invariant.6
-          ∙ trial-turn a.s.now a.rings.now a.sizes.now a.coords.now a.quotas.now a.deepest.now a.rows.now l.z a.n l.at a.numbers a.options (context_at a.options probe a.r) (rectangles a.obstacles.now) c.before.before.before.before.before.before.before.before.before.before.before.before.before.before.before.before.loop-test.true
+          ∙ trial_turn a.s.now a.rings.now a.sizes.now a.coords.now a.quotas.now a.deepest.now a.rows.now l.z a.n l.at a.numbers a.options (context_at a.options probe a.r) (rectangles a.obstacles.now) c.before.before.before.before.before.before.before.before.before.before.before.before.before.before.before.before.loop-test.true
           ∙ rw (← held, not-false c.before.before.before.before.before.before.before.before.before.before.holds.result c.before.if1.false, c.past_row.ensures, g),
     )
 

@@ -5,7 +5,7 @@ use borrow.Author.Tests.{not-true, not-false}
 use Rattle.discs.specs.Floor.{handed_at, pack_handed, holds_all}
 use Rattle.discs.specs.Walk.{holding}
 use Rattle.discs.proofs.Written.{rest_is}
-use Rattle.discs.proofs.Zones.{part_is, left_in, laid-parts, lent-parts, points_part}
+use Rattle.discs.proofs.Zones.{part_is, left_in, laid_parts, lent_parts, points_part}
 use Rattle.discs.proofs.trial.holds.Statement.{statement}
 use Rattle.discs.proofs.trial.holds.Tie as tie
 
@@ -152,8 +152,8 @@ probe-region-requires c κs =
     let a = c.before.before.before.before.before.before.before.before.before.before.before.before.before.before.before.before.before.before.before.before.before.before.before.before.before.args in
     let h = c.before.before.before.before.before.before.before.before.before.before.before.before.before.before.before.before.before.before.before.before.before.before.before.before.before.requires in
     let left = sym c.before.before.before.before.before.before.before.before.before.before.before.before.before.is-left-in.ensures ∙ not-false c.before.before.before.before.before.before.before.before.before.before.before.before.before.is-left-in.result c.before.before.before.before.before.before.before.before.before.before.before.before.if1.false in (
-      laid-parts a.s.now a.rings.now a.sizes.now a.coords.now a.quotas.now a.deepest.now a.row a.at h.0.stands,
-      lent-parts a.s.now a.rings.now a.sizes.now a.coords.now a.quotas.now a.deepest.now a.row a.at _ _ _ _ _ h.0 left h.1,
+      laid_parts a.s.now a.rings.now a.sizes.now a.coords.now a.quotas.now a.deepest.now a.row a.at h.0.stands,
+      lent_parts a.s.now a.rings.now a.sizes.now a.coords.now a.quotas.now a.deepest.now a.row a.at _ _ _ _ _ h.0 left h.1,
       h.2,
       h.3,
     )

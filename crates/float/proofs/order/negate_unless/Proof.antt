@@ -6,7 +6,7 @@ use lib.Ieee.Bits.{of_bits-to_bits}
 use lib.Ieee.Compare.{differs_from_itself}
 use Rattle.laws.specs.Truth.{yes}
 use Rattle.float.specs.Laws.Nan.{is_number}
-use Rattle.float.specs.Laws.Sign.{turned-pattern, turned_fits, turned-no-nan}
+use Rattle.float.specs.Laws.Sign.{turned_pattern, turned_fits, turned_no_nan}
 use Rattle.float.proofs.order.negate_unless.Statement.{statement}
 use Rattle.float.proofs.order.negate_unless.Tie as tie
 
@@ -25,12 +25,12 @@ returns c = rw (differs_from_itself c.before.args.x (yes c.if1.true)) (same c.be
 float-from-bits-result : tie.Need-float-from-bits-result
 float-from-bits-result c =
     let s = c.before.before.before in
-    rw (c.wrapping-add-u64.ensures, c.before.sign_bit.ensures) (turned-no-nan s.args.x s.args.keep (held s) (is_number _ c.before.before.if1.false))
+    rw (c.wrapping-add-u64.ensures, c.before.sign_bit.ensures) (turned_no_nan s.args.x s.args.keep (held s) (is_number _ c.before.before.if1.false))
 
 returns-2 : tie.Need-returns-2
 returns-2 c =
     let s = c.before.before.before in
-    rw (c.wrapping-add-u64.ensures, c.before.sign_bit.ensures, turned-pattern s.args.x s.args.keep (held s) (is_number _ c.before.before.if1.false))
+    rw (c.wrapping-add-u64.ensures, c.before.sign_bit.ensures, turned_pattern s.args.x s.args.keep (held s) (is_number _ c.before.before.if1.false))
     (of_bits-to_bits binary64 _ (turned_fits s.args.x s.args.keep (held s)))
 
 pub negate-unless-spec : {M : Type 1} → statement M

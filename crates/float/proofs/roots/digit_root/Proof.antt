@@ -1,7 +1,7 @@
 -- `float::digit_root` meets its contract. The invariant: q has the digits of the root down to the bit, and what is left is kept beside it. The measure is the bit.
 -- Rests on `Digit.antt`.
 use Rattle.std.proofs.Common.{ℕ, ◌-◌, ◌*◌, ◌^◌, ◌<◌, ◌≤◌, refl, le_refl, arith, lit<, rules}
-use Rattle.float.proofs.roots.Digit.{State, again-one, again-zero, at_one, nearest-up, nearest-down}
+use Rattle.float.proofs.roots.Digit.{State, again_one, again_zero, at_one, nearest_up, nearest_down}
 use Rattle.float.proofs.roots.digit_root.Statement.{statement}
 use Rattle.float.proofs.roots.digit_root.Tie as tie
 
@@ -36,13 +36,13 @@ loop-less : tie.Need-loop-smaller invariant-loop decreases-loop
 loop-less c = omega arith
 
 loop-again : tie.Need-loop-preserved invariant-loop decreases-loop
-loop-again c = again-one (2 ^ 53) _ _ _ _ c.before.before.loop.invariant c.before.loop-test.true c.if1.true
+loop-again c = again_one (2 ^ 53) _ _ _ _ c.before.before.loop.invariant c.before.loop-test.true c.if1.true
 
 loop-less-2 : tie.Need-loop-smaller-2 invariant-loop decreases-loop
 loop-less-2 c = omega arith
 
 loop-again-2 : tie.Need-loop-preserved-2 invariant-loop decreases-loop
-loop-again-2 c = again-zero (2 ^ 53) _ _ _ _ c.before.before.loop.invariant c.before.loop-test.true c.if1.false
+loop-again-2 c = again_zero (2 ^ 53) _ _ _ _ c.before.before.loop.invariant c.before.loop-test.true c.if1.false
 
 add-result : tie.Need-overflow-add-result invariant-loop decreases-loop
 add-result c = omega arith
@@ -50,12 +50,12 @@ add-result c = omega arith
 returns : tie.Need-returns invariant-loop decreases-loop
 returns c =
     let i = c.before.before.loop.invariant in
-    nearest-up _ _ _ (at_one _ _ _ _ i.0.0 i.0.1 c.before.loop-test.false i.1) c.if2.true
+    nearest_up _ _ _ (at_one _ _ _ _ i.0.0 i.0.1 c.before.loop-test.false i.1) c.if2.true
 
 returns-2 : tie.Need-returns-2 invariant-loop decreases-loop
 returns-2 c =
     let i = c.before.before.loop.invariant in
-    nearest-down _ _ _ (at_one _ _ _ _ i.0.0 i.0.1 c.before.loop-test.false i.1) i.3 c.if2.false
+    nearest_down _ _ _ (at_one _ _ _ _ i.0.0 i.0.1 c.before.loop-test.false i.1) i.3 c.if2.false
 
 pub digit-root-spec : {M : Type 1} → statement M
 digit-root-spec =

@@ -1,7 +1,7 @@
 -- `float::is_nearest` meets its contract: what is left after the square of r says that r is the nearest whole number.
 -- Rests on `Residual.antt`.
 use Rattle.std.proofs.Common.{◌≡◌, ◌+◌, ◌*◌, ◌%◌, ◌^◌, ltb, ◌∙◌, arith, ltb→lt, rules}
-use Rattle.float.proofs.roots.Residual.{residual, high_fits, rest-fits, nearest}
+use Rattle.float.proofs.roots.Residual.{residual, high_fits, rest_fits, nearest}
 use Rattle.float.proofs.roots.is_nearest.Statement.{statement}
 use Rattle.float.proofs.roots.is_nearest.Tie as tie
 
@@ -14,7 +14,7 @@ add-if1 c =
 add-result : tie.Need-overflow-add-result
 add-result c =
     let s = c.before.before.before.before.before in
-    record { fits = rest-fits s.args.r _ _ s.requires.1 (omega arith) c.if2.false }
+    record { fits = rest_fits s.args.r _ _ s.requires.1 (omega arith) c.if2.false }
 
 returns-3 : tie.Need-returns-3
 returns-3 c t =

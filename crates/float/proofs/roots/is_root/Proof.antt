@@ -4,18 +4,18 @@ use Rattle.std.proofs.Common.{sym, ◌∙◌, rules}
 use lib.Ieee.{binary64}
 use lib.Ieee.Bits.{of_bits-to_bits}
 use Rattle.laws.specs.Truth.{yes}
-use Rattle.float.proofs.roots.Tests.{above-number}
-use Rattle.float.proofs.roots.Value.{normal-root}
+use Rattle.float.proofs.roots.Tests.{above_number}
+use Rattle.float.proofs.roots.Value.{normal_root}
 use Rattle.float.proofs.roots.is_root.Statement.{statement}
 use Rattle.float.proofs.roots.is_root.Tie as tie
 
 float-to-bits-is-scaled-root : tie.Need-float-to-bits-is-scaled-root
-float-to-bits-is-scaled-root c = above-number c.before.args.guess c.if1.true
+float-to-bits-is-scaled-root c = above_number c.before.args.guess c.if1.true
 
 returns : tie.Need-returns
 returns c t =
     let s = c.before.before in
-    sym (of_bits-to_bits binary64 s.args.guess (yes s.well-formed.1.0.1)) ∙ c.is-scaled-root.ensures t ∙ sym (normal-root s.args.bits s.requires.0 s.requires.1)
+    sym (of_bits-to_bits binary64 s.args.guess (yes s.well-formed.1.0.1)) ∙ c.is-scaled-root.ensures t ∙ sym (normal_root s.args.bits s.requires.0 s.requires.1)
 
 pub is-root-spec : {M : Type 1} → statement M
 is-root-spec =

@@ -4,7 +4,7 @@ use Rattle.std.proofs.Common.{◌≡◌, ℕ, ◌-◌, ◌*◌, ◌%◌, ◌^◌
 use lib.Count.{count_leading_zeros}
 use lib.Ieee.{binary64}
 use Rattle.float.specs.Root.{nearest_root}
-use Rattle.float.proofs.roots.Value.{normal-root, subnormal-root, moved}
+use Rattle.float.proofs.roots.Value.{normal_root, subnormal_root, moved}
 use Rattle.float.proofs.roots.root_of.Statement.{statement}
 use Rattle.float.proofs.roots.root_of.Tie as tie
 
@@ -36,12 +36,12 @@ returns c =
     let f = moved s.args.bits s.requires.0 c.before.if1.true in
     c.scaled-root.ensures
     ∙ ap (λ (n : ℕ). nearest_root binary64 (n * 2 ^ 52 * 2 ^ (1022 - (count_leading_zeros 64 s.args.bits - 11)))) (kept (s.args.bits * 2 ^ (count_leading_zeros 64 s.args.bits - 11)) f.3)
-    ∙ sym (subnormal-root s.args.bits (count_leading_zeros 64 s.args.bits - 11) s.requires.0 c.before.if1.true f.1)
+    ∙ sym (subnormal_root s.args.bits (count_leading_zeros 64 s.args.bits - 11) s.requires.0 c.before.if1.true f.1)
 
 returns-2 : tie.Need-returns-2
 returns-2 c =
     let s = c.before.before in
-    c.scaled-root2.ensures ∙ sym (normal-root s.args.bits c.before.if1.false s.requires.1)
+    c.scaled-root2.ensures ∙ sym (normal_root s.args.bits c.before.if1.false s.requires.1)
 
 pub root-of-spec : {M : Type 1} → statement M
 root-of-spec =

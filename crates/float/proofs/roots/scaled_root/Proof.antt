@@ -2,18 +2,18 @@
 -- Rests on `Scaled.antt` and the contract of `digit_root`.
 use Rattle.std.proofs.Common.{◌+◌, ◌*◌, ◌/◌, ◌%◌, ◌^◌, ◌≤◌, arith, rules}
 use Rattle.float.specs.Laws.Pattern.{no_nan}
-use Rattle.float.proofs.roots.Scaled.{at_most, moved-le, moved-lt, from-digits}
+use Rattle.float.proofs.roots.Scaled.{at_most, moved_le, moved_lt, from_digits}
 use Rattle.float.proofs.roots.scaled_root.Statement.{statement}
 use Rattle.float.proofs.roots.scaled_root.Tie as tie
 
 digit-root-requires : tie.Need-digit-root-requires
-digit-root-requires c κs = (moved-le c.args.m c.args.g c.requires.0 c.requires.1.0, moved-lt c.args.m c.args.g c.requires.0 c.requires.1.0)
+digit-root-requires c κs = (moved_le c.args.m c.args.g c.requires.0 c.requires.1.0, moved_lt c.args.m c.args.g c.requires.0 c.requires.1.0)
 
 -- the digits found are at most 2 ^ 53
 most : (c : tie.After-digit-root) → c.digit-root.result ≤ 2 ^ 53
 most c =
     let s = c.before in
-    at_most (s.args.m * 2 ^ (s.args.g % 2) % 2 ^ 64) c.digit-root.result (moved-lt s.args.m s.args.g s.requires.0 s.requires.1.0) c.digit-root.ensures
+    at_most (s.args.m * 2 ^ (s.args.g % 2) % 2 ^ 64) c.digit-root.result (moved_lt s.args.m s.args.g s.requires.0 s.requires.1.0) c.digit-root.ensures
 
 add-result : tie.Need-overflow-add-result
 add-result c = omega (arith, most c)
@@ -24,7 +24,7 @@ float-from-bits-result c = no_nan (c.before.args.g / 2 * 2 ^ 52 + c.digit-root.r
 returns : tie.Need-returns
 returns c =
     let s = c.before in
-    from-digits s.args.m s.args.g s.requires.0 s.requires.1.0 c.digit-root.result s.requires.1.1 c.digit-root.ensures
+    from_digits s.args.m s.args.g s.requires.0 s.requires.1.0 c.digit-root.result s.requires.1.1 c.digit-root.ensures
 
 pub scaled-root-spec : {M : Type 1} → statement M
 scaled-root-spec =

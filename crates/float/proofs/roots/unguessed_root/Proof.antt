@@ -5,7 +5,7 @@ use lib.Ieee.{binary64, fits}
 use lib.Ieee.Bits.{of_bits-to_bits}
 use Rattle.laws.specs.Truth.{yes}
 use Rattle.float.specs.Root.{root_of}
-use Rattle.float.proofs.roots.Tests.{above-number, above-pattern, infinite, at_zero, below-zero}
+use Rattle.float.proofs.roots.Tests.{above_number, above_pattern, infinite, at_zero, below_zero}
 use Rattle.float.proofs.roots.unguessed_root.Statement.{statement}
 use Rattle.float.proofs.roots.unguessed_root.Tie as tie
 
@@ -14,10 +14,10 @@ held : (c : tie.Start) → T (fits binary64 c.args.x)
 held c = yes c.well-formed.0.1
 
 float-to-bits-bits : tie.Need-float-to-bits-bits
-float-to-bits-bits c = above-number c.before.args.x c.if1.true
+float-to-bits-bits c = above_number c.before.args.x c.if1.true
 
 root-of-requires : tie.Need-root-of-requires
-root-of-requires c κs = (above-pattern c.before.before.args.x (held c.before.before) c.before.if1.true, omega (arith, c.if2.true))
+root-of-requires c κs = (above_pattern c.before.before.args.x (held c.before.before) c.before.if1.true, omega (arith, c.if2.true))
 
 returns : tie.Need-returns
 returns c =
@@ -31,7 +31,7 @@ returns-3 : tie.Need-returns-3
 returns-3 c = at_zero c.before.before.args.x c.if3.true
 
 returns-4 : tie.Need-returns-4
-returns-4 c = below-zero c.before.before.args.x c.before.if1.false c.if3.false
+returns-4 c = below_zero c.before.before.args.x c.before.if1.false c.if3.false
 
 pub unguessed-root-spec : {M : Type 1} → statement M
 unguessed-root-spec = tie.close (tie.spec float-to-bits-bits root-of-requires returns returns-2 returns-3 returns-4)

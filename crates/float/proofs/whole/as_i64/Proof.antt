@@ -3,7 +3,7 @@
 use lib.Ieee.{of_bits, neg}
 use Rattle.std.proofs.Common.{rules}
 use Rattle.laws.specs.Truth.{yes, no}
-use Rattle.float.proofs.whole.Casts.{signed_high, signed_low, signed-none}
+use Rattle.float.proofs.whole.Casts.{signed_high, signed_low, signed_none}
 use Rattle.float.proofs.whole.as_i64.Statement.{statement}
 use Rattle.float.proofs.whole.as_i64.Tie as tie
 
@@ -24,7 +24,7 @@ returns-3 c = signed_low c.before.before.args.x (no c.before.if1.false) (yes c.i
 
 returns-4 : tie.Need-returns-4
 unfolding of_bits neg
-returns-4 c = signed-none c.before.before.args.x (no c.before.if1.false) (no c.if3.false)
+returns-4 c = signed_none c.before.before.args.x (no c.before.if1.false) (no c.if3.false)
 
 pub as-i64-spec : {M : Type 1} → statement M
 as-i64-spec = tie.close (tie.spec truncating-f64-to-i64-requires returns returns-2 returns-3 returns-4)

@@ -3,7 +3,7 @@
 use lib.Ieee.{of_bits, neg}
 use Rattle.std.proofs.Common.{rules}
 use Rattle.laws.specs.Truth.{yes, no}
-use Rattle.float.proofs.whole.Casts.{unsigned-high, unsigned-none}
+use Rattle.float.proofs.whole.Casts.{unsigned_high, unsigned_none}
 use Rattle.float.proofs.whole.as_usize.Statement.{statement}
 use Rattle.float.proofs.whole.as_usize.Tie as tie
 
@@ -16,11 +16,11 @@ returns c = search rules
 
 returns-2 : tie.Need-returns-2
 unfolding of_bits neg
-returns-2 c = unsigned-high c.before.before.args.x (yes c.before.if1.true) (no c.if2.false)
+returns-2 c = unsigned_high c.before.before.args.x (yes c.before.if1.true) (no c.if2.false)
 
 returns-3 : tie.Need-returns-3
 unfolding of_bits neg
-returns-3 c = unsigned-none c.before.args.x (no c.if1.false)
+returns-3 c = unsigned_none c.before.args.x (no c.if1.false)
 
 pub as-usize-spec : {M : Type 1} → statement M
 as-usize-spec = tie.close (tie.spec truncating-f64-to-u64-requires returns returns-2 returns-3)

@@ -6,8 +6,8 @@ use mir.ValLaws.{to_z-of_z}
 use Rattle.laws.specs.Truth.{yes, no}
 use Rattle.float.specs.Whole.{ceil, as_i64}
 use Rattle.float.specs.Laws.Whole.{ceil_cast_below, ceil_cast_far}
-use Rattle.float.proofs.whole.Casts.{positive-fits, positive-is}
-use Rattle.float.proofs.whole.Whole.{Sized, above-sized, above-asks, above-le, above-ceil}
+use Rattle.float.proofs.whole.Casts.{positive_fits, positive_is}
+use Rattle.float.proofs.whole.Whole.{Sized, above_sized, above_asks, above_le, above_ceil}
 use Rattle.float.proofs.whole.ceil_i64.Statement.{statement}
 use Rattle.float.proofs.whole.ceil_i64.Tie as tie
 
@@ -16,19 +16,19 @@ held c = yes c.well-formed.0.1
 
 above : (c : tie.Then2) → Sized false c.before.before.args.x
 unfolding of_bits
-above c = above-sized c.before.before.args.x (yes c.before.if1.true) (yes c.if2.true)
+above c = above_sized c.before.before.args.x (yes c.before.if1.true) (yes c.if2.true)
 
 small : (c : tie.After-whole-above) → c.whole_above.result ≤ 2 ^ 53
-small c = above-le c.before.before.before.args.x c.whole_above.result c.whole_above.ensures (above c.before)
+small c = above_le c.before.before.before.args.x c.whole_above.result c.whole_above.ensures (above c.before)
 
 whole-above-requires : tie.Need-whole-above-requires
-whole-above-requires c κs = above-asks c.before.before.args.x (above c)
+whole-above-requires c κs = above_asks c.before.before.args.x (above c)
 
 cast-result : tie.Need-overflow-cast-result
-cast-result c = positive-fits _ (small c)
+cast-result c = positive_fits _ (small c)
 
 returns : tie.Need-returns
-returns c = positive-is _ (small c) ∙ above-ceil c.before.before.before.args.x c.whole_above.result c.whole_above.ensures (above c.before)
+returns c = positive_is _ (small c) ∙ above_ceil c.before.before.before.args.x c.whole_above.result c.whole_above.ensures (above c.before)
 
 as-i64-requires : tie.Need-as-i64-requires
 as-i64-requires c κs = search rules

@@ -6,8 +6,8 @@ use mir.ValLaws.{to_z-of_z}
 use Rattle.laws.specs.Truth.{yes, no}
 use Rattle.float.specs.Whole.{floor, as_i64}
 use Rattle.float.specs.Laws.Whole.{floor_cast_above, floor_cast_far}
-use Rattle.float.proofs.whole.Casts.{positive-fits, minus-fits, minus_is}
-use Rattle.float.proofs.whole.Whole.{Sized, below-sized, neg_sized, above-asks, above-le, below-cast}
+use Rattle.float.proofs.whole.Casts.{positive_fits, minus_fits, minus_is}
+use Rattle.float.proofs.whole.Whole.{Sized, below_sized, neg_sized, above_asks, above_le, below_cast}
 use Rattle.float.proofs.whole.floor_i64.Statement.{statement}
 use Rattle.float.proofs.whole.floor_i64.Tie as tie
 
@@ -16,22 +16,22 @@ held c = yes c.well-formed.0.1
 
 below : (c : tie.Then2) → Sized true c.before.before.args.x
 unfolding of_bits neg
-below c = below-sized c.before.before.args.x (yes c.before.if1.true) (yes c.if2.true)
+below c = below_sized c.before.before.args.x (yes c.before.if1.true) (yes c.if2.true)
 
 small : (c : tie.After-whole-above) → c.whole_above.result ≤ 2 ^ 53
-small c = above-le (neg c.before.before.before.args.x) c.whole_above.result c.whole_above.ensures (neg_sized _ (below c.before))
+small c = above_le (neg c.before.before.before.args.x) c.whole_above.result c.whole_above.ensures (neg_sized _ (below c.before))
 
 whole-above-requires : tie.Need-whole-above-requires
-whole-above-requires c κs = above-asks (neg c.before.before.args.x) (neg_sized _ (below c))
+whole-above-requires c κs = above_asks (neg c.before.before.args.x) (neg_sized _ (below c))
 
 cast-result : tie.Need-overflow-cast-result
-cast-result c = positive-fits _ (small c)
+cast-result c = positive_fits _ (small c)
 
 sub-result : tie.Need-overflow-sub-result
-sub-result c = minus-fits _ (small c)
+sub-result c = minus_fits _ (small c)
 
 returns : tie.Need-returns
-returns c = minus_is _ (small c) ∙ below-cast c.before.before.before.args.x c.whole_above.result c.whole_above.ensures (below c.before)
+returns c = minus_is _ (small c) ∙ below_cast c.before.before.before.args.x c.whole_above.result c.whole_above.ensures (below c.before)
 
 as-i64-requires : tie.Need-as-i64-requires
 as-i64-requires c κs = search rules

@@ -7,8 +7,8 @@ use lib.ListN.{length, length-set}
 use lib.Seq.{sets}
 use Rattle.format.specs.Rows.{faults, each}
 use Rattle.format.specs.Numbers.{coord_in, coord_at, next_coord}
-use Rattle.format.specs.RowLaws.{stop, faults_turn, faults_end, store-turn, store_end}
-use Rattle.format.specs.NumberLaws.{coord_inside, room-turn}
+use Rattle.format.specs.RowLaws.{stop, faults_turn, faults_end, store_turn, store_end}
+use Rattle.format.specs.NumberLaws.{coord_inside, room_turn}
 use borrow.Author.Rules.{rules}
 use Rattle.format.proofs.numbers.coords.Statement.{statement}
 use Rattle.format.proofs.numbers.coords.Tie as tie
@@ -57,7 +57,7 @@ slice-write-out c =
     let l = c.before.before.before.before.loop in
     let a = c.before.before.before.before.before.before.before.args in
     let v = coord_inside a.s.now a.number l.at (cc) in
-    (room-turn l.k l.left l.at (length a.s.now) (length l.out) (omega arith) v l.invariant.2).0
+    (room_turn l.k l.left l.at (length a.s.now) (length l.out) (omega arith) v l.invariant.2).0
 
 add_at : tie.Need-overflow-add-at invariant-loop decreases-loop
 add_at c = search rules
@@ -80,10 +80,10 @@ loop-again c =
     let v = coord_inside s a.number l.at f in (
       omega arith,
       omega arith,
-      simp length-set (room-turn l.k l.left l.at (length s) (length l.out) (omega arith) v l.invariant.2).1,
+      simp length-set (room_turn l.k l.left l.at (length s) (length l.out) (omega arith) v l.invariant.2).1,
       search rules,
       faults_turn next_coord (coord_in s a.number) l.left l.at (omega arith) f refl l.invariant.4,
-      store-turn next_coord (coord_at s) l.out l.k l.left l.at (omega arith) refl refl (rw c.coord-at.ensures) l.invariant.5,
+      store_turn next_coord (coord_at s) l.out l.k l.left l.at (omega arith) refl refl (rw c.coord-at.ensures) l.invariant.5,
     )
 
 same-length-2 : tie.Need-same-length-2 invariant-loop decreases-loop

@@ -9,7 +9,7 @@ use Rattle.format.specs.Rows.{faults, past, each, flat}
 use Rattle.format.specs.Numbers.{u8}
 use Rattle.format.specs.Pieces.{piece_fault, piece_end, piece_coords, ring_sizes}
 use Rattle.format.specs.Steps.{Room}
-use Rattle.format.specs.RowLaws.{stop, faults_turn, faults_end, past_turn, past_end, store-turn, store_end, length_each, length-turn, length_end, put-turn, put_end}
+use Rattle.format.specs.RowLaws.{stop, faults_turn, faults_end, past_turn, past_end, store_turn, store_end, length_each, length_turn, length_end, put_turn, put_end}
 use Rattle.format.specs.PieceLaws.{few_rings_lem}
 use borrow.Author.Rules.{rules}
 use Rattle.format.proofs.pieces.pieces.Statement.{statement}
@@ -82,11 +82,11 @@ loop-again c =
       search rules,
       faults_turn (piece_end s) (piece_fault s) l.left at m f r.at l.invariant.6,
       past_turn (piece_end s) l.left at m r.at l.invariant.7,
-      length-turn (piece_end s) (piece_coords s) l.to.coords l.left at m r.at r.coords l.invariant.8,
-      length-turn (piece_end s) (ring_sizes s) l.to.rings l.left at m r.at r.rings l.invariant.9,
-      put-turn (piece_end s) (piece_coords s) l.out l.to.coords l.left at m r.at r.coords r.put l.invariant.10,
-      put-turn (piece_end s) (ring_sizes s) l.sizes l.to.rings l.left at m r.at r.rings r.sized l.invariant.11,
-      store-turn (piece_end s) (u8 s) l.counts l.to.pieces l.left at m r.at r.pieces r.counted l.invariant.12,
+      length_turn (piece_end s) (piece_coords s) l.to.coords l.left at m r.at r.coords l.invariant.8,
+      length_turn (piece_end s) (ring_sizes s) l.to.rings l.left at m r.at r.rings l.invariant.9,
+      put_turn (piece_end s) (piece_coords s) l.out l.to.coords l.left at m r.at r.coords r.put l.invariant.10,
+      put_turn (piece_end s) (ring_sizes s) l.sizes l.to.rings l.left at m r.at r.rings r.sized l.invariant.11,
+      store_turn (piece_end s) (u8 s) l.counts l.to.pieces l.left at m r.at r.pieces r.counted l.invariant.12,
     )
 
 same-length-4 : tie.Need-same-length-4 invariant-loop decreases-loop

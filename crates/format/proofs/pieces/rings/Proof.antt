@@ -9,7 +9,7 @@ use Rattle.format.specs.Rows.{faults, past, each, flat}
 use Rattle.format.specs.Numbers.{u16}
 use Rattle.format.specs.Pieces.{ring_fault, ring_end, ring}
 use Rattle.format.specs.Steps.{Room}
-use Rattle.format.specs.RowLaws.{stop, faults_turn, faults_end, past_turn, past_end, store-turn, store_end, length_each, length-turn, length_end, put-turn, put_end}
+use Rattle.format.specs.RowLaws.{stop, faults_turn, faults_end, past_turn, past_end, store_turn, store_end, length_each, length_turn, length_end, put_turn, put_end}
 use borrow.Author.Rules.{rules}
 use Rattle.format.proofs.pieces.rings.Statement.{statement}
 use Rattle.format.proofs.pieces.rings.Tie as tie
@@ -73,9 +73,9 @@ loop-again c =
       search rules,
       faults_turn (ring_end s) (ring_fault s) l.left at m f r.at l.invariant.5,
       past_turn (ring_end s) l.left at m r.at l.invariant.6,
-      length-turn (ring_end s) (ring s) l.to.coords l.left at m r.at r.coords l.invariant.7,
-      put-turn (ring_end s) (ring s) l.out l.to.coords l.left at m r.at r.coords r.put l.invariant.8,
-      store-turn (ring_end s) (u16 s) l.sizes l.to.rings l.left at m r.at r.rings r.sized l.invariant.9,
+      length_turn (ring_end s) (ring s) l.to.coords l.left at m r.at r.coords l.invariant.7,
+      put_turn (ring_end s) (ring s) l.out l.to.coords l.left at m r.at r.coords r.put l.invariant.8,
+      store_turn (ring_end s) (u16 s) l.sizes l.to.rings l.left at m r.at r.rings r.sized l.invariant.9,
     )
 
 same-length-3 : tie.Need-same-length-3 invariant-loop decreases-loop

@@ -1,7 +1,7 @@
 -- `apportion` writes the quotas. Invariant: the quotas of the first i pieces stand in front.
 -- Rests on what `quota_of` ensures and the law that the quotas one by one are `apportion`.
 use Rattle.std.proofs.Common.{◌≡◌, ◌-◌, ◌≤◌, length, refl, ◌∙◌, arith, length-set, rules}
-use Rattle.laws.specs.Lists.{tabulate, written, write-next}
+use Rattle.laws.specs.Lists.{tabulate, written, write_next}
 use Rattle.glyphs.specs.Quotas.{quota_of, apportioned}
 use Rattle.glyphs.proofs.quotas.apportion.Statement.{statement}
 use Rattle.glyphs.proofs.quotas.apportion.Tie as tie
@@ -45,7 +45,7 @@ loop-again c =
     let quota = quota_of a.n c.before.before.before.before.total.result c.before.before.before.left_over.result a.weights.now in (
       search rules,
       length-set l.quotas l.i c.quota-of.result ∙ l.invariant.1,
-      write-next quota l.quotas a.quotas.now l.i c.quota-of.result l.invariant.2 c.quota-of.ensures (search rules),
+      write_next quota l.quotas a.quotas.now l.i c.quota-of.result l.invariant.2 c.quota-of.ensures (search rules),
     )
 
 same_length : tie.Need-same-length invariant-loop decreases-loop

@@ -5,7 +5,7 @@ use Prim.Native.Nat.{Ordering}
 use lib.Ieee.{nan}
 use Rattle.laws.specs.Orders.{compared}
 use Rattle.laws.specs.Sorted.{if_lt_none}
-use Rattle.glyphs.specs.Quotas.{by-keys}
+use Rattle.glyphs.specs.Quotas.{by_keys}
 use Rattle.glyphs.proofs.quotas.before.Statement.{statement}
 use Rattle.glyphs.proofs.quotas.before.Tie as tie
 
@@ -32,14 +32,14 @@ returns c =
     let a = c.before.before.before.before.before.before.args in
     let x = c.before.before.before.remainder-key in
     let y = c.before.remainder-key2 in
-    rw (by-keys a.n a.total a.weights.now a.i a.j nan (search rules) (search rules), ← x.ensures, ← y.ensures, compared _ _ Ordering.lt c.if1.true)
+    rw (by_keys a.n a.total a.weights.now a.i a.j nan (search rules) (search rules), ← x.ensures, ← y.ensures, compared _ _ Ordering.lt c.if1.true)
 
 returns-2 : tie.Need-returns-2
 returns-2 c =
     let a = c.before.before.before.before.before.before.before.args in
     let x = c.before.before.before.before.remainder-key in
     let y = c.before.before.remainder-key2 in
-    rw (by-keys a.n a.total a.weights.now a.i a.j nan (search rules) (search rules), ← x.ensures, ← y.ensures, compared _ _ Ordering.gt c.if2.true)
+    rw (by_keys a.n a.total a.weights.now a.i a.j nan (search rules) (search rules), ← x.ensures, ← y.ensures, compared _ _ Ordering.gt c.if2.true)
 
 returns-3 : tie.Need-returns-3
 returns-3 c =
@@ -47,7 +47,7 @@ returns-3 c =
     let x = c.before.before.before.before.before.remainder-key in
     let y = c.before.before.before.remainder-key2 in
     let level : x.result ≡ y.result = omega arith in
-    rw (by-keys a.n a.total a.weights.now a.i a.j nan (search rules) (search rules), ← x.ensures, ← y.ensures, compared _ _ Ordering.eq level, compared _ _ Ordering.lt c.if3.true)
+    rw (by_keys a.n a.total a.weights.now a.i a.j nan (search rules) (search rules), ← x.ensures, ← y.ensures, compared _ _ Ordering.eq level, compared _ _ Ordering.lt c.if3.true)
 
 returns-4 : tie.Need-returns-4
 returns-4 c =
@@ -55,7 +55,7 @@ returns-4 c =
     let x = c.before.before.before.before.before.remainder-key in
     let y = c.before.before.before.remainder-key2 in
     let level : x.result ≡ y.result = omega arith in
-    rw (by-keys a.n a.total a.weights.now a.i a.j nan (search rules) (search rules), ← x.ensures, ← y.ensures, compared _ _ Ordering.eq level, if_lt_none _ _ c.if3.false)
+    rw (by_keys a.n a.total a.weights.now a.i a.j nan (search rules) (search rules), ← x.ensures, ← y.ensures, compared _ _ Ordering.eq level, if_lt_none _ _ c.if3.false)
 
 pub before-spec : {M : Type 1} → statement M
 before-spec =

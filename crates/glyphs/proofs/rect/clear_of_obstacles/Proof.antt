@@ -4,7 +4,7 @@ use Rattle.std.proofs.Common.{◌≡◌, ◌-◌, ◌/◌, ◌≤◌, length, ru
 use native.Mathlib.Nat.{sub-zero}
 use borrow.Author.Tests.{not-true, not-false}
 use Rattle.float.specs.Ops.{◌≤ᶠ◌}
-use Rattle.glyphs.specs.Rect.{rects_from, rectangles, clear_of_obstacles, rects-step, rects_end}
+use Rattle.glyphs.specs.Rect.{rects_from, rectangles, clear_of_obstacles, rects_step, rects_end}
 use Rattle.glyphs.proofs.rect.clear_of_obstacles.Statement.{statement}
 use Rattle.glyphs.proofs.rect.clear_of_obstacles.Tie as tie
 
@@ -26,7 +26,7 @@ unfolding clear_of_obstacles
 returns c =
     rw (
       c.before.before.before.before.loop.invariant.2,
-      rects-step _ _ _ c.before.before.before.loop-test.true,
+      rects_step _ _ _ c.before.before.before.loop-test.true,
       ← c.before.before.obstacle.ensures,
       ← c.before.dist-to-rect.ensures,
       not-true (c.before.before.before.before.before.before.args.clearance ≤ᶠ c.before.dist-to-rect.result) c.if1.true,
@@ -39,7 +39,7 @@ loop-again c = (
   search rules,
   rw (
     c.before.before.before.before.loop.invariant.2,
-    rects-step _ _ _ c.before.before.before.loop-test.true,
+    rects_step _ _ _ c.before.before.before.loop-test.true,
     ← c.before.before.obstacle.ensures,
     ← c.before.dist-to-rect.ensures,
     not-false (c.before.before.before.before.before.before.args.clearance ≤ᶠ c.before.dist-to-rect.result) c.if1.false,

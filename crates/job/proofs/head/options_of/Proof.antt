@@ -2,7 +2,7 @@
 -- Rests on what its calls ensure.
 use mathlib.Core.Path.{ap, ◌∙◌}
 use Rattle.job.specs.Head.{options_of, arrangement_of, policy_of}
-use Rattle.job.specs.HeadLaws.{same-options}
+use Rattle.job.specs.HeadLaws.{same_options}
 use Rattle.format.specs.Numbers.{share}
 use borrow.Author.Rules.{rules}
 use Rattle.job.proofs.head.options_of.Statement.{statement}
@@ -74,7 +74,7 @@ uint-requires-10 c κs = search rules
 returns : tie.Need-returns
 unfolding options_of
 returns c =
-    same-options
+    same_options
     (c.before.before.before.before.before.before.before.before.before.before.before.before.before.before.arrangement-of.ensures ∙ ap arrangement_of c.before.before.before.before.before.before.before.before.before.before.before.before.before.before.before.uint.ensures.0)
     (c.before.before.before.before.before.before.before.before.before.radius-of.ensures ∙ rw (c.before.before.before.before.before.before.before.before.before.before.before.uint3.ensures.0, c.before.before.before.before.before.before.before.before.before.before.uint4.ensures.0))
     (c.before.before.before.before.before.before.before.share.ensures ∙ ap share c.before.before.before.before.before.before.before.before.uint5.ensures.0)

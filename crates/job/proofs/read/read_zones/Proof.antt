@@ -10,7 +10,7 @@ use Rattle.format.specs.RowLaws.{row_fault, row_clear, last_has, last_lacks}
 use Rattle.format.specs.NumberLaws.{item_passed}
 use Rattle.job.specs.Zones.{zone_fault, zone_next, zone_end}
 use Rattle.job.specs.Job.{zones_at, first_zone, zones_end, zones_fault}
-use Rattle.job.proofs.Flat.{job-put}
+use Rattle.job.proofs.Flat.{job_put}
 use borrow.Author.Rules.{rules}
 use Rattle.job.proofs.read.read_zones.Statement.{statement}
 use Rattle.job.proofs.read.read_zones.Tie as tie
@@ -114,7 +114,7 @@ returns-4 c =
     let p = item_passed 2 s (zones_at s) 0 64 9 (omega arith) (sym i ∙ c.before.before.before.before.before.before.before.before.before.before.before.before.before.before.before.before.before.before.if1.false) in
     record {
       fault = row_clear _ _ _ i c.before.before.before.before.before.before.before.before.before.before.before.before.before.before.before.before.before.before.if1.false (row_clear _ _ _ f c.before.before.if2.false (last_has (length s) (past (zone_end s) (u16 s (zones_at s)) (zones_at s + 2)) 7 (omega arith) refl));
-      read = λ _. job-put s a.out.now a.sizes.now a.counts.now a.rows.now _ _ _ _ _ p.to c.before.before.before.before.before.before.before.before.before.before.before.before.before.before.before.before.before.before.before.before.before.before.before.before.before.requires.2 c.before.before.before.before.before.before.before.before.before.before.before.before.before.before.before.before.before.before.before.before.before.before.before.before.before.requires.3 c.before.before.before.before.before.before.before.before.before.before.before.before.before.before.before.before.before.before.before.before.before.before.before.before.before.requires.4 c.before.before.before.before.before.before.before.before.before.before.before.before.before.before.before.before.before.before.before.before.before.before.before.before.before.requires.5 (rw (u, t) at r);
+      read = λ _. job_put s a.out.now a.sizes.now a.counts.now a.rows.now _ _ _ _ _ p.to c.before.before.before.before.before.before.before.before.before.before.before.before.before.before.before.before.before.before.before.before.before.before.before.before.before.requires.2 c.before.before.before.before.before.before.before.before.before.before.before.before.before.before.before.before.before.before.before.before.before.before.before.before.before.requires.3 c.before.before.before.before.before.before.before.before.before.before.before.before.before.before.before.before.before.before.before.before.before.before.before.before.before.requires.4 c.before.before.before.before.before.before.before.before.before.before.before.before.before.before.before.before.before.before.before.before.before.before.before.before.before.requires.5 (rw (u, t) at r);
     }
 
 pub read-zones-spec : {M : Type 1} → statement M

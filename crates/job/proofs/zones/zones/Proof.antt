@@ -8,7 +8,7 @@ use lib.ListN.{length}
 use lib.Seq.{sets}
 use Rattle.format.specs.Rows.{faults, past, flat}
 use Rattle.format.specs.Steps.{Room}
-use Rattle.format.specs.RowLaws.{stop, faults_turn, faults_end, past_turn, past_end, length-turn, length_end, put-turn, put_end}
+use Rattle.format.specs.RowLaws.{stop, faults_turn, faults_end, past_turn, past_end, length_turn, length_end, put_turn, put_end}
 use Rattle.job.specs.Zones.{zone_fault, zone_next, zone_end, zone_coords, zone_sizes, zone_rings, zone_row}
 use Rattle.job.specs.Steps.{Known, place_of}
 use Rattle.job.specs.ZoneLaws.{zone_few, length_row}
@@ -115,13 +115,13 @@ loop-again c =
       search rules,
       faults_turn (zone_next s) (zone_fault s) l.left z m f r.place l.invariant.9,
       past_turn (zone_end s) l.left at m p.at l.invariant.10,
-      length-turn (zone_end s) (zone_coords s) l.to.coords l.left at m p.at p.coords l.invariant.11,
-      length-turn (zone_end s) (zone_sizes s) l.to.rings l.left at m p.at p.rings l.invariant.12,
-      length-turn (zone_end s) (zone_rings s) l.to.pieces l.left at m p.at p.pieces l.invariant.13,
-      put-turn (zone_end s) (zone_coords s) l.out l.to.coords l.left at m p.at p.coords p.put l.invariant.14,
-      put-turn (zone_end s) (zone_sizes s) l.sizes l.to.rings l.left at m p.at p.rings p.sized l.invariant.15,
-      put-turn (zone_end s) (zone_rings s) l.counts l.to.pieces l.left at m p.at p.pieces p.counted l.invariant.16,
-      put-turn (zone_end s) (zone_row s) l.rows (l.before.zones * 4) l.left at m p.at (omega (arith, r.zones, length_row s at)) r.row l.invariant.17,
+      length_turn (zone_end s) (zone_coords s) l.to.coords l.left at m p.at p.coords l.invariant.11,
+      length_turn (zone_end s) (zone_sizes s) l.to.rings l.left at m p.at p.rings l.invariant.12,
+      length_turn (zone_end s) (zone_rings s) l.to.pieces l.left at m p.at p.pieces l.invariant.13,
+      put_turn (zone_end s) (zone_coords s) l.out l.to.coords l.left at m p.at p.coords p.put l.invariant.14,
+      put_turn (zone_end s) (zone_sizes s) l.sizes l.to.rings l.left at m p.at p.rings p.sized l.invariant.15,
+      put_turn (zone_end s) (zone_rings s) l.counts l.to.pieces l.left at m p.at p.pieces p.counted l.invariant.16,
+      put_turn (zone_end s) (zone_row s) l.rows (l.before.zones * 4) l.left at m p.at (omega (arith, r.zones, length_row s at)) r.row l.invariant.17,
     )
 
 same-length-5 : tie.Need-same-length-5 invariant-loop decreases-loop

@@ -7,8 +7,8 @@ use Rattle.laws.specs.Truth.{yes}
 use Rattle.glyphs.specs.declared.rect.Rectangle.{Rectangle}
 use Rattle.glyphs.specs.Rect.{rects_from, rectangles, filter}
 use Rattle.regions.specs.Margin.{high_of_margin}
-use Rattle.lattice.specs.Near.{rects_front, filter-step, filter_end}
-use Rattle.lattice.specs.Beside.{abreast, BesideOf, abreast-clear}
+use Rattle.lattice.specs.Near.{rects_front, filter_step, filter_end}
+use Rattle.lattice.specs.Beside.{abreast, BesideOf, abreast_clear}
 use Rattle.lattice.proofs.beside.beside_at.Statement.{statement}
 use Rattle.lattice.proofs.beside.beside_at.Tie as tie
 
@@ -46,7 +46,7 @@ loop-again c =
       omega (arith, c.put_if.ensures.0),
       omega (arith, c.put_if.ensures.0),
       l.invariant.4
-          ∙ filter-step f a.near.now l.k n (rects_from l.pillars 0 l.m) _ _ asked.before.before.before.loop-test.true asked.before.obstacle.ensures asked.abreast.ensures
+          ∙ filter_step f a.near.now l.k n (rects_from l.pillars 0 l.m) _ _ asked.before.before.before.loop-test.true asked.before.obstacle.ensures asked.abreast.ensures
           ∙ ap (λ (xs : List Rectangle). xs ++ filter f (rects_from a.near.now (l.k + 1) (n - (l.k + 1)))) (sym c.put_if.ensures.1),
     )
 
@@ -64,7 +64,7 @@ returns-2 c =
       refl,
       λ (e : true ≡ true). (
         omega arith,
-        λ (x : Float). rw (held, high_of_margin a.margin s.requires) (abreast-clear x a.y a.margin.least near),
+        λ (x : Float). rw (held, high_of_margin a.margin s.requires) (abreast_clear x a.y a.margin.least near),
       ),
     )
 

@@ -6,7 +6,7 @@ use Rattle.glyphs.specs.Rect.{rectangles}
 use Rattle.regions.specs.Ring.{piece_of}
 use Rattle.lattice.specs.Lattice.{hex_enum_cap, at}
 use Rattle.lattice.specs.Rows.{first_row, last_row}
-use Rattle.lattice.specs.Tally.{counts_of, cells-counted, cells_none, tally_no_rows}
+use Rattle.lattice.specs.Tally.{counts_of, cells_counted, cells_none, tally_no_rows}
 use Rattle.lattice.proofs.count.count_cells.Statement.{statement}
 use Rattle.lattice.proofs.count.count_cells.Tie as tie
 
@@ -28,7 +28,7 @@ returns-3 c =
     let tested = made.before.before.before in
     let a = tested.before.before.before.before.before.args in
     sym
-    (cells-counted (piece_of a.sizes.now a.coords.now) a.margin.least (rectangles a.near.now) a.field a.cap
+    (cells_counted (piece_of a.sizes.now a.coords.now) a.margin.least (rectangles a.near.now) a.field a.cap
     (search rules) tested.before.if1.false (sym tested.is_finite.ensures ∙ not-false _ made.before.before.if2.false)
     ∙ rw (← made.row-height.ensures, ← c.before.before.before.floor-rank.ensures, ← c.before.ceil-rank.ensures)
     (tally_no_rows _ _ _ _ _ hex_enum_cap _ _ _ _ c.if3.true))
@@ -41,7 +41,7 @@ returns-4 c =
     let a = tested.before.before.before.before.before.args in
     c.count-rows.ensures
     ∙ sym
-    (cells-counted (piece_of a.sizes.now a.coords.now) a.margin.least (rectangles a.near.now) a.field a.cap
+    (cells_counted (piece_of a.sizes.now a.coords.now) a.margin.least (rectangles a.near.now) a.field a.cap
     (search rules) tested.before.if1.false (sym tested.is_finite.ensures ∙ not-false _ made.before.before.if2.false)
     ∙ rw (← made.row-height.ensures, ← c.before.before.before.before.floor-rank.ensures, ← c.before.before.ceil-rank.ensures))
 

@@ -4,7 +4,7 @@ use Rattle.std.proofs.Common.{◌≡◌, ◌-◌, ◌≤◌, not, sym, ap, ◌�
 use borrow.Author.Tests.{not-true, not-false}
 use lib.Seq.{slice}
 use Rattle.lattice.specs.Crossings.{odd_any, inside_level, Ascend}
-use Rattle.lattice.specs.Asked.{end-next, outside_outer, inside-outer, inside_hole, outside-hole, no_hole}
+use Rattle.lattice.specs.Asked.{end_next, outside_outer, inside_outer, inside_hole, outside_hole, no_hole}
 use Rattle.lattice.proofs.crossings.inside_level.Statement.{statement}
 use Rattle.lattice.proofs.crossings.inside_level.Tie as tie
 
@@ -20,7 +20,7 @@ decreases-loop x rings crossings ends all from₀ k₀ from k = rings - k
 slice-aggregate-odd : tie.Need-slice-aggregate-odd invariant-loop decreases-loop
 slice-aggregate-odd c =
     let s = c.before.before.before in
-    let n = end-next s.requires 0 0 s.requires.some s.requires.ascend in
+    let n = end_next s.requires 0 0 s.requires.some s.requires.ascend in
     sym (length-take-le _ _ (omega (arith, n.1, c.before.before.all.given.0)))
 
 returns : tie.Need-returns invariant-loop decreases-loop
@@ -34,21 +34,21 @@ loop-holds c =
     let s = c.before.before.before.before.before in
     let a = s.args in (
       s.requires.some,
-      (end-next s.requires 0 0 s.requires.some s.requires.ascend).2,
-      inside-outer a.x a.rings a.crossings.now a.ends.now
+      (end_next s.requires 0 0 s.requires.some s.requires.ascend).2,
+      inside_outer a.x a.rings a.crossings.now a.ends.now
           (sym c.before.odd.ensures ∙ not-false c.before.odd.result c.if1.false),
     )
 
 mul-odd : tie.Need-overflow-mul-odd invariant-loop decreases-loop
 mul-odd c =
     let l = c.before.before.loop in
-    let n = end-next c.before.before.before.before.before.before.before.before.requires l.from l.k c.before.loop-test.true l.invariant.1 in
+    let n = end_next c.before.before.before.before.before.before.before.before.requires l.from l.k c.before.loop-test.true l.invariant.1 in
     omega (arith, n.0, n.1)
 
 sub-odd : tie.Need-overflow-sub-odd invariant-loop decreases-loop
 sub-odd c =
     let l = c.before.before.loop in
-    (end-next c.before.before.before.before.before.before.before.before.requires l.from l.k c.before.loop-test.true l.invariant.1).0
+    (end_next c.before.before.before.before.before.before.before.before.requires l.from l.k c.before.loop-test.true l.invariant.1).0
 
 part-odd-start : tie.Need-slice-bounds-odd-start invariant-loop decreases-loop
 part-odd-start c = sub-odd c
@@ -57,7 +57,7 @@ part-odd-end : tie.Need-slice-bounds-odd-end invariant-loop decreases-loop
 part-odd-end c =
     let l = c.before.before.loop in
     let all = c.before.before.before.before.before.before.before in
-    let n = end-next all.before.requires l.from l.k c.before.loop-test.true l.invariant.1 in
+    let n = end_next all.before.requires l.from l.k c.before.loop-test.true l.invariant.1 in
     omega (arith, n.1, all.all.given.0)
 
 returns-2 : tie.Need-returns-2 invariant-loop decreases-loop
@@ -81,9 +81,9 @@ loop-again c =
     let s = entered.before.before.before.before.before.before.before in
     let a = s.args in
     let e =
-    outside-hole a.x a.rings a.crossings.now a.ends.now s.requires l.from l.k h
+    outside_hole a.x a.rings a.crossings.now a.ends.now s.requires l.from l.k h
     (sym called.odd2.ensures ∙ c.if2.false) in
-    (search rules, (end-next s.requires l.from l.k h l.invariant.1).2, l.invariant.2 ∙ ap not e)
+    (search rules, (end_next s.requires l.from l.k h l.invariant.1).2, l.invariant.2 ∙ ap not e)
 
 returns-3 : tie.Need-returns-3 invariant-loop decreases-loop
 returns-3 c =

@@ -2,7 +2,7 @@
 -- Rests on the laws of crossings written one after another.
 use Rattle.std.proofs.Common.{◌≡◌, ℕ, ◌-◌, ◌/◌, ◌<◌, ◌≤◌, ◌++◌, length, take, refl, ap, ◌∙◌, add-one, arith, rules}
 use Rattle.regions.specs.Ring.{prev}
-use Rattle.lattice.specs.Crossings.{crossings_after, edge_crossing, ring-next, ring_start, ring_few, ring_whole}
+use Rattle.lattice.specs.Crossings.{crossings_after, edge_crossing, ring_next, ring_start, ring_few, ring_whole}
 use Rattle.lattice.proofs.crossings.put_ring.Statement.{statement}
 use Rattle.lattice.proofs.crossings.put_ring.Tie as tie
 
@@ -41,7 +41,7 @@ loop-again c =
       search rules,
       search rules,
       λ h.
-          ring-next a.y v (length v / 2) l.i (take a.start a.crossings.now) (take l.c l.crossings) _ (l.invariant.6 (omega (arith, put.ensures.0)))
+          ring_next a.y v (length v / 2) l.i (take a.start a.crossings.now) (take l.c l.crossings) _ (l.invariant.6 (omega (arith, put.ensures.0)))
           (put.ensures.2 h ∙ ap (λ (j : ℕ). take l.c l.crossings ++ edge_crossing a.y v l.i j) l.invariant.3),
     )
 

@@ -3,7 +3,7 @@
 use Rattle.std.proofs.Common.{◌≡◌, ℕ, ◌+◌, ◌-◌, ◌≤◌, ◌++◌, length, take, drop, refl, ap, ◌∙◌, le_antisymm, arith, length-set, rules}
 use Rattle.glyphs.specs.Points.{Ring}
 use Rattle.regions.specs.Ring.{sum, rings_from, piece_of, sum_step}
-use Rattle.lattice.specs.Crossings.{crossings_of, crossings_of_all, ends_of, rings-next, ends_next, rings_done, ends_done, counted, crossed}
+use Rattle.lattice.specs.Crossings.{crossings_of, crossings_of_all, ends_of, rings_next, ends_next, rings_done, ends_done, counted, crossed}
 use Rattle.lattice.proofs.crossings.put_rings.Statement.{statement}
 use Rattle.lattice.proofs.crossings.put_rings.Tie as tie
 
@@ -59,7 +59,7 @@ loop-again c =
       search rules,
       search rules,
       simp length-set l.invariant.5,
-      rings-next a.y a.sizes.now a.coords.now l.at l.k h _ (take l.c l.crossings) _ l.invariant.6 e,
+      rings_next a.y a.sizes.now a.coords.now l.at l.k h _ (take l.c l.crossings) _ l.invariant.6 e,
       ends_next a.y a.sizes.now a.coords.now l.at l.k h _ l.ends l.c put.put-ring.result (omega arith) l.invariant.7
           (counted l.crossings _ _ l.c put.put-ring.result e (omega arith) (omega arith)),
     )

@@ -3,7 +3,7 @@
 use Rattle.std.proofs.Common.{◌≡◌, ◌+◌, ◌-◌, ◌≤◌, length, drop, arith, rules}
 use Rattle.laws.specs.Truth.{yes}
 use Rattle.float.specs.Laws.Nan.{lt_number}
-use Rattle.regions.specs.Ring.{sum, rings_from, piece_of, rings-step, rings_end, sum_step}
+use Rattle.regions.specs.Ring.{sum, rings_from, piece_of, rings_step, rings_end, sum_step}
 use Rattle.lattice.specs.Edges.{Left, left_all, left_next, left_none}
 use Rattle.lattice.proofs.edges.near_edges.Statement.{statement}
 use Rattle.lattice.proofs.edges.near_edges.Tie as tie
@@ -37,7 +37,7 @@ loop-again c =
       search rules,
       omega (arith, sum_step a.sizes.now l.k t),
       left_next a.y _ (piece_of a.sizes.now a.coords.now) _ _ l.m l.edges _ _
-          (rw (rings-step l.at a.sizes.now a.coords.now l.k t, ← c.before.before.before.ring-at.ensures.0) at l.invariant.2) (c.before.put-ring.ensures c.if1.false),
+          (rw (rings_step l.at a.sizes.now a.coords.now l.k t, ← c.before.before.before.ring-at.ensures.0) at l.invariant.2) (c.before.put-ring.ensures c.if1.false),
     )
 
 returns-2 : tie.Need-returns-2 invariant-loop decreases-loop

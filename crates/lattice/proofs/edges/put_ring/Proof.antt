@@ -1,7 +1,7 @@
 -- `put_ring` meets its contract. The invariant: the edges visited so far are added.
 -- Rests on the laws of a ring's edges in turn.
 use Rattle.std.proofs.Common.{◌≡◌, ◌-◌, ◌/◌, ◌≤◌, length, refl, arith, rules}
-use Rattle.lattice.specs.Edges.{AddedAfter, after_none, after_next, ring_short, ring-added}
+use Rattle.lattice.specs.Edges.{AddedAfter, after_none, after_next, ring_short, ring_added}
 use Rattle.lattice.proofs.edges.put_ring.Statement.{statement}
 use Rattle.lattice.proofs.edges.put_ring.Tie as tie
 
@@ -39,7 +39,7 @@ returns-3 : tie.Need-returns-3 invariant-loop decreases-loop
 returns-3 c =
     let l = c.before.loop in
     let a = c.before.before.before.before.before.args in
-    λ h. ring-added a.y a.reach a.ring.now _ l.i a.start a.edges.now l.m l.edges refl c.before.before.if1.false (omega arith) l.invariant.3
+    λ h. ring_added a.y a.reach a.ring.now _ l.i a.start a.edges.now l.m l.edges refl c.before.before.if1.false (omega arith) l.invariant.3
 
 pub put-ring-spec : {M : Type 1} → statement M
 put-ring-spec =

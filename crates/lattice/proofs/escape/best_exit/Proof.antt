@@ -4,7 +4,7 @@ use Rattle.std.proofs.Common.{◌≡◌, ◌-◌, ◌/◌, ◌≤◌, length, ru
 use mathlib.Core.List.{foldl}
 use native.Mathlib.Nat.{sub-zero}
 use Rattle.glyphs.specs.declared.rect.Rectangle.{Rectangle}
-use Rattle.glyphs.specs.Rect.{rects_from, rectangles, rects-step, rects_end}
+use Rattle.glyphs.specs.Rect.{rects_from, rectangles, rects_step, rects_end}
 use Rattle.regions.specs.Ring.{piece_of}
 use Rattle.lattice.specs.Escape.{exits, consider, best_exit}
 use Rattle.lattice.specs.declared.escape.Best.{Best}
@@ -28,7 +28,7 @@ loop-holds c = (search rules, search rules, simp sub-zero)
 loop-again : tie.Need-loop-preserved invariant-loop decreases-loop
 loop-again c =
     let l = c.before.before.before.loop in
-    (search rules, search rules, rw (l.invariant.2, rects-step _ _ _ c.before.before.loop-test.true, ← c.before.obstacle.ensures, c.consider-exits.ensures))
+    (search rules, search rules, rw (l.invariant.2, rects_step _ _ _ c.before.before.loop-test.true, ← c.before.obstacle.ensures, c.consider-exits.ensures))
 
 returns : tie.Need-returns invariant-loop decreases-loop
 returns c = rw (c.before.loop.invariant.2, rects_end _ _ _ c.loop-test.false)

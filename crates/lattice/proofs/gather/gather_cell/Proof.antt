@@ -5,7 +5,7 @@ use borrow.Author.Tests.{not-true, not-false}
 use Rattle.glyphs.specs.Rect.{rectangles}
 use Rattle.regions.specs.Ring.{piece_of}
 use Rattle.lattice.specs.Found.{clears_is, clear_is}
-use Rattle.lattice.specs.Gathered.{kept_of, gathers-out, gathers-free, gathers-blocked}
+use Rattle.lattice.specs.Gathered.{kept_of, gathers_out, gathers_free, gathers_blocked}
 use Rattle.lattice.specs.Held.{blocked_le}
 use Rattle.lattice.proofs.gather.gather_cell.Statement.{statement}
 use Rattle.lattice.proofs.gather.gather_cell.Tie as tie
@@ -14,7 +14,7 @@ returns : tie.Need-returns
 returns c =
     let s = c.before.before.before.before.before.before.before in
     let a = s.args in
-    gathers-out a.anchor a.nf a.nb a.t a.free.now a.blocked.now a.run.now s.requires.2
+    gathers_out a.anchor a.nf a.nb a.t a.free.now a.blocked.now a.run.now s.requires.2
     (piece_of a.sizes.now a.coords.now) a.margin.least (rectangles a.near.now) a.p
     (sym (clears_is s.requires.1 a.p.x c.before.level-clears.ensures) ∙ not-true c.before.level-clears.result c.if1.true)
 
@@ -25,7 +25,7 @@ returns-2 c =
     let tested = asked.before.before.before in
     let s = tested.before.before.before.before.before.before in
     let a = s.args in
-    gathers-free a.anchor a.nf a.nb a.t a.free.now a.blocked.now a.run.now s.requires.2
+    gathers_free a.anchor a.nf a.nb a.t a.free.now a.blocked.now a.run.now s.requires.2
     (piece_of a.sizes.now a.coords.now) a.margin.least (rectangles a.near.now) a.p
     (sym (clears_is s.requires.1 a.p.x tested.level-clears.ensures) ∙ not-false tested.level-clears.result asked.before.before.if1.false)
     (sym (clear_is s.requires.1 a.p.x asked.beside-clears.ensures) ∙ waited.before.before.before.if2.true)
@@ -45,7 +45,7 @@ returns-3 c =
     let tested = asked.before.before.before in
     let s = tested.before.before.before.before.before.before in
     let a = s.args in
-    gathers-blocked a.anchor a.nf a.nb a.t a.free.now a.blocked.now a.run.now s.requires.2
+    gathers_blocked a.anchor a.nf a.nb a.t a.free.now a.blocked.now a.run.now s.requires.2
     (piece_of a.sizes.now a.coords.now) a.margin.least (rectangles a.near.now) a.p
     (sym (clears_is s.requires.1 a.p.x tested.level-clears.ensures) ∙ not-false tested.level-clears.result asked.before.before.if1.false)
     (sym (clear_is s.requires.1 a.p.x asked.beside-clears.ensures) ∙ kept.before.before.if2.false)

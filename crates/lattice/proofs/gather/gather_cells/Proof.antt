@@ -4,7 +4,7 @@ use Rattle.std.proofs.Common.{sym, refl, ap, ◌∙◌, rules}
 use borrow.Author.Tests.{not-true, not-false}
 use Rattle.glyphs.specs.Rect.{rectangles}
 use Rattle.regions.specs.Ring.{piece_of}
-use Rattle.lattice.specs.Gather.{kept, gather, kept_none, cells-gathered, gather_no_rows}
+use Rattle.lattice.specs.Gather.{kept, gather, kept_none, cells_gathered, gather_no_rows}
 use Rattle.lattice.specs.Held.{holds_as, holds_none, ready_none, held_none}
 use Rattle.lattice.specs.Lattice.{HexCells, no_cells, never, hex_enum_cap}
 use Rattle.lattice.specs.Rows.{visit, first_row, last_row}
@@ -43,7 +43,7 @@ returns-3 c =
     let near = rectangles a.near.now in
     holds_as (holds_none a.free.now a.blocked.now)
     (sym
-    (cells-gathered piece a.margin.least near a.field.anchor a.nf a.nb a.field tested.before.if1.false (sym tested.is_finite.ensures ∙ not-false _ made.before.before.if2.false)
+    (cells_gathered piece a.margin.least near a.field.anchor a.nf a.nb a.field tested.before.if1.false (sym tested.is_finite.ensures ∙ not-false _ made.before.before.if2.false)
     ∙ rw (← made.row-height.ensures, ← c.before.before.before.floor-rank.ensures, ← c.before.ceil-rank.ensures)
     (gather_no_rows piece a.margin.least near a.field.anchor a.nf a.nb no_cells hex_enum_cap _ _ _ _ c.if3.true)))
 
@@ -66,7 +66,7 @@ returns-4 c =
     holds_as called.gather-rows.ensures
     (ap (λ (cells : HexCells). gather piece a.margin.least near a.field.anchor a.nf a.nb cells (visit hex_enum_cap a.field made.row-height.result ceiled.before.before.floor-rank.result ceiled.ceil-rank.result)) (held_none a.free.now a.blocked.now)
     ∙ sym
-    (cells-gathered piece a.margin.least near a.field.anchor a.nf a.nb a.field tested.before.if1.false (sym tested.is_finite.ensures ∙ not-false _ made.before.before.if2.false)
+    (cells_gathered piece a.margin.least near a.field.anchor a.nf a.nb a.field tested.before.if1.false (sym tested.is_finite.ensures ∙ not-false _ made.before.before.if2.false)
     ∙ rw (← made.row-height.ensures, ← ceiled.before.before.floor-rank.ensures, ← ceiled.ceil-rank.ensures)))
 
 pub gather-cells-spec : {M : Type 1} → statement M

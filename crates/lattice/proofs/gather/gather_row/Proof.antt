@@ -7,7 +7,7 @@ use Rattle.glyphs.specs.Rect.{rectangles}
 use Rattle.regions.specs.Ring.{piece_of}
 use Rattle.lattice.specs.Escape.{point}
 use Rattle.lattice.specs.Gather.{gather_cell, gather, row_none, row_turn, row_done}
-use Rattle.lattice.specs.Gathered.{kept_of, gathered_in, Waits, waits_begun, begun_are, holds-merged, merged_fit}
+use Rattle.lattice.specs.Gathered.{kept_of, gathered_in, Waits, waits_begun, begun_are, holds_merged, merged_fit}
 use Rattle.lattice.specs.Held.{held_in, Holds, holds_start, holds_as, turn}
 use Rattle.lattice.specs.Lattice.{HexCells}
 use Rattle.lattice.specs.Rows.{cells_from}
@@ -112,7 +112,7 @@ returns-2 c =
     turn a.anchor a.nf a.nb (kept_of l.t) l.free l.blocked w.ready a.free.now a.blocked.now l.invariant.4
     (gathered_in a.anchor a.nf l.t l.free l.blocked l.run)
     (merged_fit a.anchor a.nf a.nb l.t l.free l.blocked l.run w room) _ _ _
-    (holds-merged a.anchor a.nf a.nb l.t l.free l.blocked l.run w room _ _ merged.merge-run.ensures.0 merged.merge-run.ensures.1) in
+    (holds_merged a.anchor a.nf a.nb l.t l.free l.blocked l.run w room _ _ merged.merge-run.ensures.0 merged.merge-run.ensures.1) in
     holds_as held.2 (held.0 ∙ sym (l.invariant.5 ∙ row_done _ _ _ _ _ _ _ _ _ _ _ done.loop-test.false))
 
 pub gather-row-spec : {M : Type 1} → statement M

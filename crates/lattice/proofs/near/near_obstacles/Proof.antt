@@ -5,7 +5,7 @@ use native.Mathlib.Nat.{sub-zero}
 use Rattle.glyphs.specs.declared.bounds.Bounds.TheVariants.{Box}
 use Rattle.glyphs.specs.declared.rect.Rectangle.{Rectangle}
 use Rattle.glyphs.specs.Rect.{rects_from, rectangles, filter, near, obstacles_near}
-use Rattle.lattice.specs.Near.{rects_front, filter-step, filter_end}
+use Rattle.lattice.specs.Near.{rects_front, filter_step, filter_end}
 use Rattle.lattice.proofs.near.near_obstacles.Statement.{statement}
 use Rattle.lattice.proofs.near.near_obstacles.Tie as tie
 
@@ -40,7 +40,7 @@ loop-again c =
       omega (arith, put.put_if.ensures.0),
       search rules,
       l.invariant.4
-          ∙ filter-step f a.obstacles.now l.k n (rects_from l.out 0 l.m) _ _ put.before.before.before.before.loop-test.true put.before.before.before.obstacle.ensures put.before.before.is-near.ensures
+          ∙ filter_step f a.obstacles.now l.k n (rects_from l.out 0 l.m) _ _ put.before.before.before.before.loop-test.true put.before.before.before.obstacle.ensures put.before.before.is-near.ensures
           ∙ ap (λ (xs : List Rectangle). xs ++ filter f (rects_from a.obstacles.now (l.k + 1) (n - (l.k + 1)))) (sym put.put_if.ensures.1),
     )
 

@@ -1,7 +1,7 @@
 -- `put_if` meets its contract: the obstacle written behind the others, or nothing.
 -- Rests on the law of one more rectangle written.
 use Rattle.std.proofs.Common.{sym, append-nil, arith, rules}
-use Rattle.lattice.specs.Near.{rects-put}
+use Rattle.lattice.specs.Near.{rects_put}
 use Rattle.lattice.proofs.near.put_if.Statement.{statement}
 use Rattle.lattice.proofs.near.put_if.Tie as tie
 
@@ -10,7 +10,7 @@ returns c =
     let tested = c.before.before.before.before in
     let s = tested.before.before in
     let a = s.args in
-    let e = rects-put a.out.now a.m a.rect s.requires in
+    let e = rects_put a.out.now a.m a.rect s.requires in
     (omega arith, rw tested.if1.true (cc))
 
 returns-2 : tie.Need-returns-2

@@ -6,7 +6,7 @@ use Rattle.laws.specs.Sorted.{Ascending}
 use Rattle.glyphs.specs.declared.rect.Point.{Point}
 use Rattle.lattice.specs.Flat.{points, point_at}
 use Rattle.lattice.specs.Lattice.{by_anchor}
-use Rattle.lattice.specs.Run.{before_last, put_below, Merging, merge_start, merge-old, merge-new, merge_done}
+use Rattle.lattice.specs.Run.{before_last, put_below, Merging, merge_start, merge_old, merge_new, merge_done}
 use Rattle.lattice.proofs.nearest.merge_run.Statement.{statement}
 use Rattle.lattice.proofs.nearest.merge_run.Tie as tie
 
@@ -67,7 +67,7 @@ some-old c =
     let l = w.before.before.before in
     let s = l.before.before.before in
     let a = s.args in
-    (merge-old a.anchor a.cells.now a.run.now a.m a.cap a.k s.requires.0 s.requires.1 s.requires.2 s.requires.3 s.requires.4 w.loop2.i l.loop.j w.loop2.cells (within w) w.before.before.loop-test.true (asked c.before ∙ c.if1.true)).0
+    (merge_old a.anchor a.cells.now a.run.now a.m a.cap a.k s.requires.0 s.requires.1 s.requires.2 s.requires.3 s.requires.4 w.loop2.i l.loop.j w.loop2.cells (within w) w.before.before.loop-test.true (asked c.before ∙ c.if1.true)).0
 
 loop2-again : tie.Need-loop2-preserved invariant-loop2 decreases-loop2 invariant-loop decreases-loop
 loop2-again c = λ first f r g u v start.
@@ -79,7 +79,7 @@ loop2-again c = λ first f r g u v start.
     let a = l.before.before.before.args in
     subst (Merging a.anchor first a.run.now a.m a.cap a.k (w.loop2.i - 1) l.loop.j)
     (sym (put.put_below_lem.ensures ∙ ap (put_below a.cap w.loop2.cells (w.loop2.i - 1 + l.loop.j)) read.cell2.ensures))
-    (merge-old a.anchor first a.run.now a.m a.cap a.k f r g u v w.loop2.i l.loop.j w.loop2.cells (w.loop2.invariant first f r g u v start) w.before.before.loop-test.true (asked tested.before ∙ tested.if1.true)).1
+    (merge_old a.anchor first a.run.now a.m a.cap a.k f r g u v w.loop2.i l.loop.j w.loop2.cells (w.loop2.invariant first f r g u v start) w.before.before.loop-test.true (asked tested.before ∙ tested.if1.true)).1
 
 loop-again : tie.Need-loop-preserved invariant-loop2 decreases-loop2 invariant-loop decreases-loop
 loop-again c =
@@ -91,7 +91,7 @@ loop-again c =
     let a = s.args in
     subst (Merging a.anchor a.cells.now a.run.now a.m a.cap a.k w.loop2.i (l.loop.j - 1))
     (sym (put.put-below2.ensures ∙ ap (put_below a.cap w.loop2.cells (w.loop2.i + (l.loop.j - 1))) w.before.cell.ensures))
-    (merge-new a.anchor a.cells.now a.run.now a.m a.cap a.k s.requires.0 s.requires.1 s.requires.2 s.requires.3 s.requires.4 w.loop2.i l.loop.j w.loop2.cells (within w) w.before.before.loop-test.true (asked tested.before ∙ tested.if1.false))
+    (merge_new a.anchor a.cells.now a.run.now a.m a.cap a.k s.requires.0 s.requires.1 s.requires.2 s.requires.3 s.requires.4 w.loop2.i l.loop.j w.loop2.cells (within w) w.before.before.loop-test.true (asked tested.before ∙ tested.if1.false))
 
 returns : tie.Need-returns invariant-loop2 decreases-loop2 invariant-loop decreases-loop
 returns c =

@@ -7,7 +7,7 @@ use Rattle.laws.specs.Lists.{written}
 use Rattle.glyphs.specs.declared.rect.Point.{Point}
 use Rattle.glyphs.specs.Rect.{rectangles}
 use Rattle.regions.specs.Ring.{piece_of}
-use Rattle.lattice.specs.Around.{pack_strict, pack-short, pack-wide}
+use Rattle.lattice.specs.Around.{pack_strict, pack_short, pack_wide}
 use Rattle.glyphs.specs.Spots.{flat}
 use Rattle.lattice.specs.Spread.{with_spacing, field_take}
 use Rattle.lattice.specs.declared.rows.Field.{Field}
@@ -35,7 +35,7 @@ returns-2 c =
     let a = s.args in
     let e =
     sym
-    (pack-short (piece_of a.sizes.now a.coords.now) a.margin.least (rectangles a.near.now) a.n a.field a.strict _ counted.count-cells.ensures tested.if1.false
+    (pack_short (piece_of a.sizes.now a.coords.now) a.margin.least (rectangles a.near.now) a.n a.field a.strict _ counted.count-cells.ensures tested.if1.false
     (sym short.before.is-enough.ensures ∙ not-true short.before.is-enough.result short.if2.true)) in
     (called.take-cells2.ensures.0 ∙ ap length e, called.take-cells2.ensures.1 ∙ ap (λ (ps : List Point). written (flat ps) a.spots.now) e)
 
@@ -55,7 +55,7 @@ returns-3 c =
     ap (λ (field : Field). field_take piece a.margin.least near a.n field honoring)
     (placed.at-spacing.ensures ∙ ap (λ (x : Float). with_spacing a.field x) placed.before.spread-spacing.ensures)
     ∙ sym
-    (pack-wide piece a.margin.least near a.n a.field a.strict _ counted.count-cells.ensures tested.if1.false
+    (pack_wide piece a.margin.least near a.n a.field a.strict _ counted.count-cells.ensures tested.if1.false
     (sym short.before.is-enough.ensures ∙ not-false short.before.is-enough.result short.if2.false)) in
     (called.take-cells3.ensures.0 ∙ ap length e, called.take-cells3.ensures.1 ∙ ap (λ (ps : List Point). written (flat ps) a.spots.now) e)
 

@@ -9,7 +9,7 @@ use Rattle.glyphs.specs.Spots.{flat}
 use Rattle.lattice.specs.Gather.{kept}
 use Rattle.lattice.specs.Lattice.{never, sort_by_anchor}
 use Rattle.lattice.specs.Spread.{field_take}
-use Rattle.lattice.specs.Taken.{filled, taken, none_if_le, kept_le, kept-lengths, fill}
+use Rattle.lattice.specs.Taken.{filled, taken, none_if_le, kept_le, kept_lengths, fill}
 use Rattle.lattice.specs.Tally.{cells_of}
 use Rattle.lattice.proofs.spread.take_cells.Statement.{statement}
 use Rattle.lattice.proofs.spread.take_cells.Tie as tie
@@ -33,7 +33,7 @@ append-requires c κs =
     let chosen = gathered.before.before.before in
     let s = chosen.before.before.before.before.before.before in
     let room : chosen.none-if.result * 2 ≤ length s.args.blocked.now = omega (arith, s.requires.1, chosen.none-if.ensures, none_if_le s.args.honoring s.args.n) in
-    let n = kept-lengths _ _ _ _ _ _ _ _ _ gathered.gather-cells.ensures s.requires.2 room in
+    let n = kept_lengths _ _ _ _ _ _ _ _ _ gathered.gather-cells.ensures s.requires.2 room in
     let b = bounds gathered in
     let k = none_if_le s.args.honoring s.args.n in
     (omega (arith, n.0, b.0, s.requires.2, c.before.before.lesser.ensures), omega (arith, n.1, b.1, chosen.none-if.ensures, k, s.requires.1, c.before.before.lesser.ensures))

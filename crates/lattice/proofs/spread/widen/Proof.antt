@@ -3,7 +3,7 @@
 use Rattle.std.proofs.Common.{◌≡◌, sym, refl, ◌∙◌, rules}
 use Rattle.glyphs.specs.Rect.{rectangles}
 use Rattle.regions.specs.Ring.{piece_of}
-use Rattle.lattice.specs.Spread.{field_widen, widen_stop, widen-up, widen-down, widen_end}
+use Rattle.lattice.specs.Spread.{field_widen, widen_stop, widen_up, widen_down, widen_end}
 use Rattle.lattice.proofs.spread.widen.Statement.{statement}
 use Rattle.lattice.proofs.spread.widen.Tie as tie
 
@@ -32,7 +32,7 @@ loop-again c =
     let l = c.before.before.before.before.loop in
     let a = c.before.before.before.before.before.before.before.before.args in
     l.invariant
-    ∙ widen-up (piece_of a.sizes.now a.coords.now) a.margin.least (rectangles a.near.now) a.n a.field a.honoring a.s_max l.turns l.lo l.hi
+    ∙ widen_up (piece_of a.sizes.now a.coords.now) a.margin.least (rectangles a.near.now) a.n a.field a.honoring a.s_max l.turns l.lo l.hi
     c.before.before.before.loop-test.true c.before.before.if1.false (sym c.before.fits-at.ensures ∙ c.if2.true)
 
 loop-again-2 : tie.Need-loop-preserved-2 invariant-loop decreases-loop
@@ -40,7 +40,7 @@ loop-again-2 c =
     let l = c.before.before.before.before.loop in
     let a = c.before.before.before.before.before.before.before.before.args in
     l.invariant
-    ∙ widen-down (piece_of a.sizes.now a.coords.now) a.margin.least (rectangles a.near.now) a.n a.field a.honoring a.s_max l.turns l.lo l.hi
+    ∙ widen_down (piece_of a.sizes.now a.coords.now) a.margin.least (rectangles a.near.now) a.n a.field a.honoring a.s_max l.turns l.lo l.hi
     c.before.before.before.loop-test.true c.before.before.if1.false (sym c.before.fits-at.ensures ∙ c.if2.false)
 
 returns-2 : tie.Need-returns-2 invariant-loop decreases-loop

@@ -6,7 +6,7 @@ use Rattle.glyphs.specs.declared.bounds.Bounds.TheVariants.{Box, Nothing}
 use Rattle.glyphs.specs.Rect.{rectangles, obstacles_near}
 use Rattle.regions.specs.Margin.{least_of_margin, margin_own}
 use Rattle.regions.specs.Ring.{piece_of}
-use Rattle.lattice.specs.Around.{probe-is, no_spots}
+use Rattle.lattice.specs.Around.{probe_is, no_spots}
 use Rattle.lattice.specs.declared.count.Counts.{Counts}
 use Rattle.lattice.proofs.uniform.probe_uniform_piece.Statement.{statement}
 use Rattle.lattice.proofs.uniform.probe_uniform_piece.Tie as tie
@@ -40,7 +40,7 @@ returns-2 c =
     let x = box.bounds.given.0 in
     c.lesser.ensures
     ∙ ap (λ (t : Counts). min a.n t.free) counted.count-cells.ensures
-    ∙ probe-is a.poi (piece_of a.sizes.now a.coords.now) a.n a.ctx (rectangles a.obstacles.now) a.rectangular x.0 x.1.0 x.1.1.0 x.1.1.1.0
+    ∙ probe_is a.poi (piece_of a.sizes.now a.coords.now) a.n a.ctx (rectangles a.obstacles.now) a.rectangular x.0 x.1.0 x.1.1.0 x.1.1.1.0
     (sym found.piece-bounds.ensures ∙ box.bounds.given.1) _ _ _
     (least_of_margin _ _ made.of.ensures ∙ inset.inset.ensures)
     (looked.near-obstacles.ensures.1 ∙ ap (λ (c : Float). obstacles_near (Box x.0 x.1.0 x.1.1.0 x.1.1.1.0) (rectangles a.obstacles.now) c) inset.inset.ensures)

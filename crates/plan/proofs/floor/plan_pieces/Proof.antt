@@ -4,7 +4,7 @@ use mathlib.Core.Path.{◌≡◌, refl, sym, ap, ◌∙◌}
 use borrow.Author.Rules.{rules}
 use Rattle.glyphs.specs.Rect.{rectangles}
 use Rattle.discs.specs.Floor.{work_in, start}
-use Rattle.discs.specs.FloorLaws.{rows-stand}
+use Rattle.discs.specs.FloorLaws.{rows_stand}
 use Rattle.job.specs.Plan.{low_fault}
 use Rattle.plan.specs.Sized.{sizing_for, refused_by}
 use Rattle.plan.proofs.floor.plan_pieces.Statement.{statement}
@@ -14,7 +14,7 @@ ceiling-of-requires : tie.Need-ceiling-of-requires
 ceiling-of-requires c κs =
     let a = c.before.before.before.before.before.before.before.before.before.before.before.before.before.args in
     let p = c.before.before.before.before.before.before.before.before.before.before.before.before.before.requires.0 in
-    (p.long, rows-stand a.s.now a.rows.now a.rings.now a.sizes.now a.coords.now a.quotas.now a.deepest.now a.n 0 start p.each)
+    (p.long, rows_stand a.s.now a.rows.now a.rings.now a.sizes.now a.coords.now a.quotas.now a.deepest.now a.n 0 start p.each)
 
 returns : tie.Need-returns
 returns c =
@@ -44,7 +44,7 @@ returns-2 c =
     let z : c.before.before.before.before.before.before.before.before.before.before.before.before.before.before.before.before.before.before.before.before.before.before.before.before.size_for_lem.result ≡ sizing_for a.options (rectangles a.obstacles.now) work = c.before.before.before.before.before.before.before.before.before.before.before.before.before.before.before.before.before.before.before.before.before.before.before.before.size_for_lem.ensures ∙ rw ceiling in
     record {
       refused = λ e. absurd (e (sym f ∙ c.before.before.before.before.before.before.before.before.before.before.before.before.before.before.before.before.before.before.before.before.before.before.before.before.before.before.before.before.before.if1.false));
-      given = λ e. rw (← z) c.before.before.before.before.before.before.before.before.before.before.put-sheet.ensures;
+      given = λ e. rw (← z) c.before.before.before.before.before.before.before.before.before.before.put_sheet.ensures;
     }
 
 pub plan-pieces-spec : {M : Type 1} → statement M

@@ -8,7 +8,7 @@ use Rattle.discs.specs.Floor.{start}
 use Rattle.plan.specs.Rows.{flat_rows}
 use Rattle.plan.specs.Placing.{placed_at}
 use Rattle.plan.specs.Sized.{answer_to}
-use Rattle.plan.specs.Sheets.{bytes-flat, sheet-put}
+use Rattle.plan.specs.Sheets.{bytes_flat, sheet_put}
 use Rattle.plan.proofs.floor.put_sheet.Statement.{statement}
 use Rattle.plan.proofs.floor.put_sheet.Tie as tie
 
@@ -25,8 +25,8 @@ returns c =
     let z = c.before.before.before.before.before.before.before.before.before.before.before.before.before.before.before.before.put-zones.ensures in
     let size = c.before.before.before.before.before.type_size.ensures in
     let placed = flat_rows a.rows.now a.rings.now a.sizes.now (placed_at a.sizing a.options (rectangles a.obstacles.now) a.s.now a.rings.now a.sizes.now a.coords.now a.quotas.now a.deepest.now) a.n 0 start in
-    let b = bytes-flat a.sizing a.options (rectangles a.obstacles.now) a.s.now a.rows.now a.rings.now a.sizes.now a.coords.now a.quotas.now a.deepest.now a.n 0 start in
-    let h = sheet-put a.sheet.now _ _ c.before.before.before.before.before.type_size.result.radius placed _ _ _ b z.0 z.1 (omega (arith, z.2, c.before.before.before.before.before.before.before.before.before.before.before.before.before.before.before.before.before.before.before.before.before.before.before.before.before.before.before.before.before.before.before.before.before.before.before.requires.3)) c.before.before.put-head.ensures in
+    let b = bytes_flat a.sizing a.options (rectangles a.obstacles.now) a.s.now a.rows.now a.rings.now a.sizes.now a.coords.now a.quotas.now a.deepest.now a.n 0 start in
+    let h = sheet_put a.sheet.now _ _ c.before.before.before.before.before.type_size.result.radius placed _ _ _ b z.0 z.1 (omega (arith, z.2, c.before.before.before.before.before.before.before.before.before.before.before.before.before.before.before.before.before.before.before.before.before.before.before.before.before.before.before.before.before.before.before.before.before.before.before.requires.3)) c.before.before.put-head.ensures in
     (rw (← size, ← h.0), rw (← size) h.1)
 
 pub put-sheet-spec : {M : Type 1} → statement M

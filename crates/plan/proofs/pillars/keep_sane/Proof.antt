@@ -6,7 +6,7 @@ use native.Mathlib.Omega.{arith}
 use borrow.Author.Rules.{rules}
 use borrow.Author.Tests.{not-true, not-false}
 use lib.ListN.{length-set}
-use Rattle.lattice.specs.Near.{rects-put}
+use Rattle.lattice.specs.Near.{rects_put}
 use Rattle.plan.proofs.pillars.keep_sane.Statement.{statement}
 use Rattle.plan.proofs.pillars.keep_sane.Tie as tie
 
@@ -19,7 +19,7 @@ returns-2 : tie.Need-returns-2
 returns-2 c =
     let s = c.before.before.before in
     let e = sym c.before.is-sane.ensures ∙ not-false c.before.is-sane.result c.if1.false in
-    (omega arith, rw e (rects-put s.args.out.now s.args.m s.args.rect s.requires))
+    (omega arith, rw e (rects_put s.args.out.now s.args.m s.args.rect s.requires))
 
 pub keep-sane-spec : {M : Type 1} → statement M
 keep-sane-spec =

@@ -9,7 +9,7 @@ use borrow.Author.Rules.{rules}
 use lib.ListN.{length}
 use Rattle.glyphs.specs.declared.rect.Rectangle.{Rectangle}
 use Rattle.glyphs.specs.Rect.{rects_from, rectangles, filter, sane, sanitize_obstacles}
-use Rattle.lattice.specs.Near.{rects_front, filter-step, filter_end}
+use Rattle.lattice.specs.Near.{rects_front, filter_step, filter_end}
 use Rattle.plan.proofs.pillars.sanitize_obstacles.Statement.{statement}
 use Rattle.plan.proofs.pillars.sanitize_obstacles.Tie as tie
 
@@ -43,7 +43,7 @@ loop-again c =
       omega (arith, kept.0),
       search rules,
       l.invariant.4
-          ∙ filter-step sane a.obstacles.now l.k n (rects_from l.out 0 l.m) rect (sane rect) c.before.before.before.before.before.loop-test.true c.before.before.before.before.obstacle.ensures refl
+          ∙ filter_step sane a.obstacles.now l.k n (rects_from l.out 0 l.m) rect (sane rect) c.before.before.before.before.before.loop-test.true c.before.before.before.before.obstacle.ensures refl
           ∙ ap (λ (xs : List Rectangle). xs ++ filter sane (rects_from a.obstacles.now (l.k + 1) (n - (l.k + 1)))) (sym kept.1),
     )
 

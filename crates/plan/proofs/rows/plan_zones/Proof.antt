@@ -5,7 +5,7 @@ use native.Mathlib.Omega.{arith}
 use borrow.Author.Rules.{rules}
 use borrow.Author.Tests.{not-true, not-false}
 use lib.Seq.{length-take-le}
-use Rattle.plan.specs.Zoned.{shares-long, pillars-lend, rows_readable, refused_search, zones_floor, zones_fair, planned-zones}
+use Rattle.plan.specs.Zoned.{shares_long, pillars_lend, rows_readable, refused_search, zones_floor, zones_fair, planned_zones}
 use Rattle.plan.proofs.rows.plan_zones.Statement.{statement}
 use Rattle.plan.proofs.rows.plan_zones.Tie as tie
 
@@ -19,7 +19,7 @@ search-zones-requires : tie.Need-search-zones-requires
 search-zones-requires c κs =
     let a = c.before.before.before.before.before.before.before.before.before.before.before.before.before.before.before.before.before.before.before.before.before.args in
     let p = c.before.before.before.before.before.before.before.before.before.before.before.before.before.before.before.before.before.before.before.before.before.requires in
-    let long = shares-long a.n a.rows.now a.rings.now a.sizes.now a.coords.now a.quotas.now _ c.before.before.before.before.before.share-zones.ensures in
+    let long = shares_long a.n a.rows.now a.rings.now a.sizes.now a.coords.now a.quotas.now _ c.before.before.before.before.before.share-zones.ensures in
     (p.2, rows_readable a.s.now a.options a.obstacles.now a.n a.rows.now a.rings.now a.sizes.now a.coords.now p.0, omega (arith, p.3, p.4, long), p.9, omega (arith, p.3, p.5))
 
 returns : tie.Need-returns
@@ -39,7 +39,7 @@ plan-pieces-requires c κs =
     let roomy = not-false c.before.before.before.before.before.before.before.before.before.before.before.before.before.before.before.before.before.search-zones.result c.before.before.before.before.before.before.before.before.before.before.before.before.if1.false in
     let first = p.9 in (
       zones_floor a.s.now a.options a.obstacles.now a.n a.rows.now a.rings.now a.sizes.now a.coords.now p.0 a.quotas.now _ (omega (arith, p.3, p.4)) c.before.before.before.before.before.before.before.before.before.before.before.before.before.before.before.before.before.before.before.before.before.before.before.share-zones.ensures a.deepest.now _ (omega (arith, p.3, p.5)) _ c.before.before.before.before.before.before.before.before.before.before.before.before.before.before.before.before.before.search-zones.ensures roomy p.2,
-      pillars-lend _ a.obstacles.now _ _ _ _ _ kept.0 kept.1 p.6 p.8 p.10 p.11 (search rules),
+      pillars_lend _ a.obstacles.now _ _ _ _ _ kept.0 kept.1 p.6 p.8 p.10 p.11 (search rules),
       zones_fair a.s.now a.options a.obstacles.now a.n a.rows.now a.rings.now a.sizes.now a.coords.now p.0 a.quotas.now _ (omega (arith, p.3, p.4)) c.before.before.before.before.before.before.before.before.before.before.before.before.before.before.before.before.before.before.before.before.before.before.before.share-zones.ensures a.deepest.now _ (omega (arith, p.3, p.5)) _ c.before.before.before.before.before.before.before.before.before.before.before.before.before.before.before.before.before.search-zones.ensures roomy _,
       p.12,
       p.1,
@@ -48,13 +48,13 @@ plan-pieces-requires c κs =
 same-length-4 : tie.Need-same-length-4
 same-length-4 c =
     let a = c.before.before.before.before.before.before.before.before.before.before.before.before.before.before.before.before.before.before.before.before.before.before.before.before.before.before.before.before.before.before.before.before.before.before.before.before.before.before.before.before.before.before.before.before.before.before.before.before.before.before.args in
-    shares-long a.n a.rows.now a.rings.now a.sizes.now a.coords.now a.quotas.now _ c.before.before.before.before.before.before.before.before.before.before.before.before.before.before.before.before.before.before.before.before.before.before.before.before.before.before.before.before.before.before.before.before.before.before.share-zones.ensures
+    shares_long a.n a.rows.now a.rings.now a.sizes.now a.coords.now a.quotas.now _ c.before.before.before.before.before.before.before.before.before.before.before.before.before.before.before.before.before.before.before.before.before.before.before.before.before.before.before.before.before.before.before.before.before.before.share-zones.ensures
 
 returns-2 : tie.Need-returns-2
 returns-2 c =
     let a = c.before.before.before.before.before.before.before.before.before.before.before.before.before.before.before.before.before.before.before.before.before.before.before.before.before.before.before.before.before.before.before.before.before.before.before.before.before.before.before.before.before.before.before.before.before.before.before.before.before.before.args in
     let p = c.before.before.before.before.before.before.before.before.before.before.before.before.before.before.before.before.before.before.before.before.before.before.before.before.before.before.before.before.before.before.before.before.before.before.before.before.before.before.before.before.before.before.before.before.before.before.before.before.before.before.requires in
-    planned-zones a.s.now a.options a.obstacles.now a.n a.rows.now a.rings.now a.sizes.now a.coords.now p.0 a.quotas.now _ (omega (arith, p.3, p.4)) c.before.before.before.before.before.before.before.before.before.before.before.before.before.before.before.before.before.before.before.before.before.before.before.before.before.before.before.before.before.before.before.before.before.before.share-zones.ensures a.deepest.now _ (omega (arith, p.3, p.5)) _ c.before.before.before.before.before.before.before.before.before.before.before.before.before.before.before.before.before.before.before.before.before.before.before.before.before.before.before.before.search-zones.ensures (not-false c.before.before.before.before.before.before.before.before.before.before.before.before.before.before.before.before.before.before.before.before.before.before.before.before.before.before.before.before.search-zones.result c.before.before.before.before.before.before.before.before.before.before.before.before.before.before.before.before.before.before.before.before.before.before.before.if1.false) _ c.before.before.before.before.before.before.before.before.before.before.before.before.before.before.before.before.before.before.before.before.before.sanitize-obstacles.ensures.2 _ _ _ c.before.before.before.before.before.before.before.before.before.before.plan-pieces.ensures
+    planned_zones a.s.now a.options a.obstacles.now a.n a.rows.now a.rings.now a.sizes.now a.coords.now p.0 a.quotas.now _ (omega (arith, p.3, p.4)) c.before.before.before.before.before.before.before.before.before.before.before.before.before.before.before.before.before.before.before.before.before.before.before.before.before.before.before.before.before.before.before.before.before.before.share-zones.ensures a.deepest.now _ (omega (arith, p.3, p.5)) _ c.before.before.before.before.before.before.before.before.before.before.before.before.before.before.before.before.before.before.before.before.before.before.before.before.before.before.before.before.search-zones.ensures (not-false c.before.before.before.before.before.before.before.before.before.before.before.before.before.before.before.before.before.before.before.before.before.before.before.before.before.before.before.before.search-zones.result c.before.before.before.before.before.before.before.before.before.before.before.before.before.before.before.before.before.before.before.before.before.before.before.if1.false) _ c.before.before.before.before.before.before.before.before.before.before.before.before.before.before.before.before.before.before.before.before.before.sanitize-obstacles.ensures.2 _ _ _ c.before.before.before.before.before.before.before.before.before.before.plan-pieces.ensures
 
 pub plan-zones-spec : {M : Type 1} → statement M
 plan-zones-spec =

@@ -12,7 +12,7 @@ use Rattle.regions.specs.Ring.{piece_of, sum}
 use Rattle.discs.specs.Pieces.{pieces_of, Laid}
 use Rattle.discs.specs.Searches.{had_room}
 use Rattle.plan.specs.Found.{found_for, found_in, three_of, all_three}
-use Rattle.plan.specs.Walk.{never, rest_is, ring-inside, laid-turn, fits-turn, fits-stop, three-turn, fits_end, three_end, own_sizes, turn_to, here}
+use Rattle.plan.specs.Walk.{never, rest_is, ring_inside, laid_turn, fits_turn, fits_stop, three_turn, fits_end, three_end, own_sizes, turn_to, here}
 use Rattle.plan.proofs.searches.search_pieces.Statement.{statement}
 use Rattle.plan.proofs.searches.search_pieces.Tie as tie
 
@@ -41,7 +41,7 @@ add-b c =
     let l = c.before.before.loop in
     let a = c.before.before.before.before.before.before.before.before.before.args in
     let more = c.before.loop-test.true in
-    let h = ring-inside a.rings.now a.sizes.now (drop l.c a.coords.now) l.k l.a more l.invariant.1 l.invariant.6 in
+    let h = ring_inside a.rings.now a.sizes.now (drop l.c a.coords.now) l.k l.a more l.invariant.1 l.invariant.6 in
     search rules
 
 part-piece-end : tie.Need-slice-bounds-piece-end invariant-loop decreases-loop
@@ -49,7 +49,7 @@ part-piece-end c =
     let l = c.before.before.loop in
     let a = c.before.before.before.before.before.before.before.before.before.args in
     let more = c.before.loop-test.true in
-    let h = ring-inside a.rings.now a.sizes.now (drop l.c a.coords.now) l.k l.a more l.invariant.1 l.invariant.6 in
+    let h = ring_inside a.rings.now a.sizes.now (drop l.c a.coords.now) l.k l.a more l.invariant.1 l.invariant.6 in
     search rules
 
 search-piece-requires : tie.Need-search-piece-requires invariant-loop decreases-loop
@@ -75,7 +75,7 @@ returns c =
     let f : c.before.before.before.before.search-piece.result ≡ found_for a.options a.left_in (piece_of own (drop l.c coords)) (get_or a.quotas.now l.k 0) = c.before.before.before.before.search-piece.ensures ∙ rw (rest_is coords l.c) in
     let h = sym c.before.had-room.ensures ∙ not-true c.before.had-room.result c.if1.true in
     record {
-      fits = sym (fits-stop rings sizes coords l.k l.a l.c b d own t a.options a.left_in a.quotas.now (omega arith) c.before.before.before.before.search-piece.result f h l.invariant.7);
+      fits = sym (fits_stop rings sizes coords l.k l.a l.c b d own t a.options a.left_in a.quotas.now (omega arith) c.before.before.before.before.search-piece.result f h l.invariant.7);
       put = λ e. absurd (never e);
     }
 
@@ -113,7 +113,7 @@ loop-again c =
     let own = own_sizes rings sizes coords l.k l.a l.c more in
     let d = l.c + c.coords-in.result in
     let t = turn_to rings sizes coords l.k l.a l.c more d (ap (λ n. l.c + n) c.coords-in.ensures) in
-    let m = laid-turn rings sizes coords l.k l.a l.c b d own t l.invariant.6 l.invariant.1 in
+    let m = laid_turn rings sizes coords l.k l.a l.c b d own t l.invariant.6 l.invariant.1 in
     let found = c.before.before.before.before.before.before.before.before.before.search-piece.result in
     let f : found ≡ found_for a.options a.left_in (piece_of own (drop l.c coords)) (get_or a.quotas.now l.k 0) = c.before.before.before.before.before.before.before.before.before.search-piece.ensures ∙ rw (rest_is coords l.c) in
     let h = sym c.before.before.before.before.before.before.had-room.ensures ∙ not-false c.before.before.before.before.before.before.had-room.result c.before.before.before.before.before.if1.false in
@@ -125,8 +125,8 @@ loop-again c =
       search rules,
       rw put (length-sets l.deepest l.at (three_of found) ∙ l.invariant.5),
       m.1,
-      fits-turn rings sizes coords l.k l.a l.c b d own t a.options a.left_in a.quotas.now (omega arith) found f h l.invariant.7,
-      rw put (three-turn rings sizes coords l.k l.a l.c b d own t a.options a.left_in a.quotas.now (omega arith) found f l.deepest l.at l.invariant.8),
+      fits_turn rings sizes coords l.k l.a l.c b d own t a.options a.left_in a.quotas.now (omega arith) found f h l.invariant.7,
+      rw put (three_turn rings sizes coords l.k l.a l.c b d own t a.options a.left_in a.quotas.now (omega arith) found f l.deepest l.at l.invariant.8),
     )
 
 returns-2 : tie.Need-returns-2 invariant-loop decreases-loop

@@ -9,7 +9,7 @@ use lib.ListN.{length}
 use lib.Seq.{sets, length-sets}
 use Rattle.discs.specs.Floor.{EachRow, past_row, start}
 use Rattle.plan.specs.Walk.{never}
-use Rattle.plan.specs.Rows.{Readable, flat_rows, all_rows, fits_at, threes_at, length_threes_at, past_piece, each_turn, flat-turn, all-turn, all_stop, flat_end, all_end}
+use Rattle.plan.specs.Rows.{Readable, flat_rows, all_rows, fits_at, threes_at, length_threes_at, past_piece, each_turn, flat_turn, all_turn, all_stop, flat_end, all_end}
 use Rattle.plan.proofs.searches.search_zones.Statement.{statement}
 use Rattle.plan.proofs.searches.search_zones.Tie as tie
 
@@ -98,8 +98,8 @@ loop-again c =
       search rules,
       rw put (length-sets l.deepest (l.at.piece * 3) (view row l.at) ∙ l.invariant.2),
       t.1,
-      all-turn a.rows.now rings sizes l.z a.n l.at row c.before.before.before.before.before.before.before.before.before.before.loop-test.true c.before.before.before.before.before.before.before.before.before.get-row.ensures test f l.invariant.4,
-      flat-turn a.rows.now rings sizes l.z a.n l.at row c.before.before.before.before.before.before.before.before.before.before.loop-test.true c.before.before.before.before.before.before.before.before.before.get-row.ensures view l.deepest _ (l.at.piece * 3) _ m put l.invariant.5,
+      all_turn a.rows.now rings sizes l.z a.n l.at row c.before.before.before.before.before.before.before.before.before.before.loop-test.true c.before.before.before.before.before.before.before.before.before.get-row.ensures test f l.invariant.4,
+      flat_turn a.rows.now rings sizes l.z a.n l.at row c.before.before.before.before.before.before.before.before.before.before.loop-test.true c.before.before.before.before.before.before.before.before.before.get-row.ensures view l.deepest _ (l.at.piece * 3) _ m put l.invariant.5,
     )
 
 same-length-3 : tie.Need-same-length-3 invariant-loop decreases-loop

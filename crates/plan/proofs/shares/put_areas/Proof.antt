@@ -8,7 +8,7 @@ use lib.ListN.{length, drop, get_or, length-drop, length-set}
 use lib.Seq.{sets}
 use Rattle.discs.specs.Region.{areas}
 use Rattle.discs.specs.Pieces.{pieces_of, Laid}
-use Rattle.plan.specs.Walk.{rest_is, ring-inside, pieces_end, laid-turn, areas-turn, own_sizes, turn_to, here}
+use Rattle.plan.specs.Walk.{rest_is, ring_inside, pieces_end, laid_turn, areas_turn, own_sizes, turn_to, here}
 use Rattle.plan.proofs.shares.put_areas.Statement.{statement}
 use Rattle.plan.proofs.shares.put_areas.Tie as tie
 
@@ -31,14 +31,14 @@ add-b : tie.Need-overflow-add-b invariant-loop decreases-loop
 add-b c =
     let l = c.before.before.loop in
     let a = c.before.before.before.before.before.before.before.args in
-    let h = ring-inside a.rings.now a.sizes.now (drop l.c a.coords.now) l.k l.a c.before.loop-test.true l.invariant.1 l.invariant.4 in
+    let h = ring_inside a.rings.now a.sizes.now (drop l.c a.coords.now) l.k l.a c.before.loop-test.true l.invariant.1 l.invariant.4 in
     search rules
 
 part-piece-end : tie.Need-slice-bounds-piece-end invariant-loop decreases-loop
 part-piece-end c =
     let l = c.before.before.loop in
     let a = c.before.before.before.before.before.before.before.args in
-    let h = ring-inside a.rings.now a.sizes.now (drop l.c a.coords.now) l.k l.a c.before.loop-test.true l.invariant.1 l.invariant.4 in
+    let h = ring_inside a.rings.now a.sizes.now (drop l.c a.coords.now) l.k l.a c.before.loop-test.true l.invariant.1 l.invariant.4 in
     search rules
 
 piece-area-requires : tie.Need-piece-area-requires invariant-loop decreases-loop
@@ -73,13 +73,13 @@ loop-again c =
     let d = l.c + c.coords-in.result in
     let own = own_sizes rings sizes coords l.k l.a l.c c.before.before.before.before.before.loop-test.true in
     let t = turn_to rings sizes coords l.k l.a l.c c.before.before.before.before.before.loop-test.true d (ap (λ n. l.c + n) c.coords-in.ensures) in
-    let m = laid-turn rings sizes coords l.k l.a l.c b d own t l.invariant.4 l.invariant.1 in (
+    let m = laid_turn rings sizes coords l.k l.a l.c b d own t l.invariant.4 l.invariant.1 in (
       omega arith,
       m.0.ring,
       omega (arith, m.0.coord, c.coords-in.ensures, length-drop l.c coords),
       length-set l.out l.k c.before.piece-area.result ∙ l.invariant.3,
       m.1,
-      areas-turn rings sizes coords l.k l.a l.c b d own t l.out c.before.piece-area.result (c.before.piece-area.ensures ∙ rw (rest_is coords l.c)) l.invariant.5,
+      areas_turn rings sizes coords l.k l.a l.c b d own t l.out c.before.piece-area.result (c.before.piece-area.ensures ∙ rw (rest_is coords l.c)) l.invariant.5,
     )
 
 returns : tie.Need-returns invariant-loop decreases-loop

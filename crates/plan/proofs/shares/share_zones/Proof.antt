@@ -7,7 +7,7 @@ use borrow.Author.Rules.{rules}
 use lib.ListN.{length}
 use lib.Seq.{sets, length-sets}
 use Rattle.discs.specs.Floor.{EachRow, past_row, start}
-use Rattle.plan.specs.Rows.{Readable, flat_rows, shares_at, length_shares, past_piece, each_turn, flat-turn, flat_end}
+use Rattle.plan.specs.Rows.{Readable, flat_rows, shares_at, length_shares, past_piece, each_turn, flat_turn, flat_end}
 use Rattle.plan.proofs.shares.share_zones.Statement.{statement}
 use Rattle.plan.proofs.shares.share_zones.Tie as tie
 
@@ -69,7 +69,7 @@ loop-again c =
       omega arith,
       rw put (length-sets l.quotas l.at.piece (view row l.at) ∙ l.invariant.1),
       t.1,
-      flat-turn a.rows.now rings sizes l.z a.n l.at row c.before.before.before.before.before.before.loop-test.true c.before.before.before.before.before.get-row.ensures view l.quotas _ l.at.piece _ m put l.invariant.3,
+      flat_turn a.rows.now rings sizes l.z a.n l.at row c.before.before.before.before.before.before.loop-test.true c.before.before.before.before.before.get-row.ensures view l.quotas _ l.at.piece _ m put l.invariant.3,
     )
 
 same_length : tie.Need-same-length invariant-loop decreases-loop

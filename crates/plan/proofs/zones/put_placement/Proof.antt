@@ -5,7 +5,7 @@ use native.Mathlib.Omega.{arith}
 use borrow.Author.Rules.{rules}
 use lib.Seq.{length-sets}
 use Rattle.plan.specs.Rows.{length_cut}
-use Rattle.plan.specs.Bytes.{placement-put}
+use Rattle.plan.specs.Bytes.{placement_put}
 use Rattle.plan.proofs.zones.put_placement.Statement.{statement}
 use Rattle.plan.proofs.zones.put_placement.Tie as tie
 
@@ -40,7 +40,7 @@ returns : tie.Need-returns
 returns c =
     let a = c.before.before.before.before.before.before.before.before.before.before.before.before.before.args in
     let p = c.before.before.before.before.before.before.before.before.before.before.before.before.before.requires in
-    placement-put a.s.now a.row a.placed a.spots.now p.1 p.3 a.sheet.now _ _ a.at _ _ c.before.before.before.before.before.before.before.put-zone.ensures.0 c.before.before.before.before.before.before.before.put-zone.ensures.1 c.before.before.before.Floats-at.ensures c.before.before.put-spots.ensures
+    placement_put a.s.now a.row a.placed a.spots.now p.1 p.3 a.sheet.now _ _ a.at _ _ c.before.before.before.before.before.before.before.put-zone.ensures.0 c.before.before.before.before.before.before.before.put-zone.ensures.1 c.before.before.before.Floats-at.ensures c.before.before.put-spots.ensures
 
 pub put-placement-spec : {M : Type 1} → statement M
 put-placement-spec =

@@ -11,7 +11,7 @@ use Rattle.glyphs.specs.Rect.{rectangles}
 use Rattle.glyphs.specs.Spots.{flat}
 use Rattle.discs.specs.Joined.{length_joined}
 use Rattle.plan.specs.Placing.{spots_at, Fair}
-use Rattle.plan.specs.Bytes.{room_in, bytes_count, bytes_out, none_out, one_in, bytes-in}
+use Rattle.plan.specs.Bytes.{room_in, bytes_count, bytes_out, none_out, one_in, bytes_in}
 use Rattle.plan.proofs.zones.put_row.Statement.{statement}
 use Rattle.plan.proofs.zones.put_row.Tie as tie
 
@@ -68,7 +68,7 @@ returns-2 c =
     let all = spots_at a.sizing a.options (rectangles a.obstacles.now) a.s.now a.rings.now a.sizes.now a.coords.now a.quotas.now a.deepest.now a.row a.at in
     let most = p.2 e in
     let long = ap length z.1 ∙ length_written (flat (flatten all)) a.spots.now (omega (arith, length_joined all, most, p.0.stands.marks, p.1.room_spots)) in
-    let w = rw (bytes-in a.sizing a.options (rectangles a.obstacles.now) a.s.now a.rings.now a.sizes.now a.coords.now a.quotas.now a.deepest.now a.row a.at c.before.before.before.before.before.before.before.before.before.before.before.before.before.before.place-zone.result a.spots.now _ e z.0 z.1) at c.before.before.before.put-placement.ensures in
+    let w = rw (bytes_in a.sizing a.options (rectangles a.obstacles.now) a.s.now a.rings.now a.sizes.now a.coords.now a.quotas.now a.deepest.now a.row a.at c.before.before.before.before.before.before.before.before.before.before.before.before.before.before.place-zone.result a.spots.now _ e z.0 z.1) at c.before.before.before.put_placement.ensures in
     let b = bytes_count a.sizing a.options (rectangles a.obstacles.now) a.s.now a.rings.now a.sizes.now a.coords.now a.quotas.now a.deepest.now a.row a.at c.before.before.before.before.before.before.before.before.before.before.before.before.before.before.place-zone.result a.spots.now _ e z.0 z.1 p.0.key (omega (arith, z.0, most, long, p.0.stands.marks, p.1.room_spots)) in
     (w, omega (arith, one_in a.sizing a.options (rectangles a.obstacles.now) a.s.now a.rings.now a.sizes.now a.coords.now a.quotas.now a.deepest.now a.row a.at e), omega (arith, w.ends, b, z.0, most, room_in a.row e), omega arith)
 

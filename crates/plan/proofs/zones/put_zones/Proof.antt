@@ -10,7 +10,7 @@ use Rattle.glyphs.specs.Rect.{rectangles}
 use Rattle.discs.specs.Floor.{EachRow, start, Packable, Lends}
 use Rattle.job.specs.Job.{row_room, rows_room}
 use Rattle.job.specs.Rows.{rows_turn}
-use Rattle.plan.specs.Rows.{flat_rows, each_turn, flat-turn, flat_end, length-turn, length_end}
+use Rattle.plan.specs.Rows.{flat_rows, each_turn, flat_turn, flat_end, length_turn, length_end}
 use Rattle.plan.specs.Placing.{placed_at, bytes_at, Fair}
 use Rattle.plan.proofs.zones.put_zones.Statement.{statement}
 use Rattle.plan.proofs.zones.put_zones.Tie as tie
@@ -97,9 +97,9 @@ loop-again c =
       t.1,
       f.1,
       omega (arith, r, p.2, l.invariant.6),
-      length-turn a.rows.now a.rings.now a.sizes.now l.z a.n l.at row more is bytes l.done.at _ p.0.ends l.invariant.7,
-      length-turn a.rows.now a.rings.now a.sizes.now l.z a.n l.at row more is ps l.done.zones _ p.1 l.invariant.8,
-      flat-turn a.rows.now a.rings.now a.sizes.now l.z a.n l.at row more is bytes l.sheet _ l.done.at _ p.0.ends p.0.put l.invariant.9,
+      length_turn a.rows.now a.rings.now a.sizes.now l.z a.n l.at row more is bytes l.done.at _ p.0.ends l.invariant.7,
+      length_turn a.rows.now a.rings.now a.sizes.now l.z a.n l.at row more is ps l.done.zones _ p.1 l.invariant.8,
+      flat_turn a.rows.now a.rings.now a.sizes.now l.z a.n l.at row more is bytes l.sheet _ l.done.at _ p.0.ends p.0.put l.invariant.9,
       search rules,
       search rules,
       search rules,

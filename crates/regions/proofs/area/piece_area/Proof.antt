@@ -7,7 +7,7 @@ use borrow.Author.Rules.{rules}
 use lib.ListN.{length, drop}
 use Rattle.float.specs.Ops.{◌-ᶠ◌, 0ᶠ}
 use Rattle.float.specs.Order.{max}
-use Rattle.regions.specs.Ring.{sum, rings_from, piece_of, rings-step, rings_end, sum_step, first-ring, first_sum}
+use Rattle.regions.specs.Ring.{sum, rings_from, piece_of, rings_step, rings_end, sum_step, first_ring, first_sum}
 use Rattle.regions.specs.Ring as ring
 use Rattle.regions.specs.Area.{area_sum, piece_area, minus_zero}
 use Rattle.regions.proofs.area.piece_area.Statement.{statement}
@@ -30,7 +30,7 @@ unfolding piece_area ring.outer ring.holes
 loop-holds c = (
   search rules,
   omega (arith, first_sum c.before.before.before.before.before.args.sizes.now c.before.before.before.before.before.requires.0),
-  rw (first-ring _ _ c.before.before.before.before.before.requires.0, ← c.before.ring-at.ensures.0, ← c.shoelace-area.ensures, minus_zero),
+  rw (first_ring _ _ c.before.before.before.before.before.requires.0, ← c.before.ring-at.ensures.0, ← c.shoelace-area.ensures, minus_zero),
 )
 
 ring-at-requires-2 : tie.Need-ring-at-requires-2 invariant-loop decreases-loop
@@ -45,7 +45,7 @@ loop-again c =
     let h = c.before.before.before.loop-test.true in (
       search rules,
       omega (arith, sum_step c.before.before.before.before.before.before.before.before.before.before.args.sizes.now c.before.before.before.before.loop.k h),
-      rw (c.before.before.before.before.loop.invariant.2, rings-step _ _ _ _ h, ← c.before.ring-at2.ensures.0, c.shoelace-area2.ensures),
+      rw (c.before.before.before.before.loop.invariant.2, rings_step _ _ _ _ h, ← c.before.ring-at2.ensures.0, c.shoelace-area2.ensures),
     )
 
 returns : tie.Need-returns invariant-loop decreases-loop

@@ -9,7 +9,7 @@ use borrow.Author.Rules.{rules}
 use lib.Dec.{eqb, leb, eqb→eq, leb→le}
 use lib.ListN.{length, get_or}
 use Rattle.laws.specs.Truth.{yes, both_true}
-use Rattle.regions.specs.Ring.{outer, holes, rings_end, first-ring, first_sum}
+use Rattle.regions.specs.Ring.{outer, holes, rings_end, first_ring, first_sum}
 use Rattle.regions.specs.Clearance.{in_any, within}
 use Rattle.regions.specs.Squares.{least_of_rings}
 use Rattle.regions.proofs.clearance.clearance.Statement.{statement}
@@ -36,7 +36,7 @@ returns : tie.Need-returns
 unfolding within outer holes in_any least_of_rings
 returns c =
     let s = start c.before.before in
-    rw (first-ring _ _ s.pre.0, rings_end _ _ _ 1 (le_of_eq (small c.before.before).0), and-true, ← c.before.ring-at.ensures.0) c.ring-clearance.ensures
+    rw (first_ring _ _ s.pre.0, rings_end _ _ _ 1 (le_of_eq (small c.before.before).0), and-true, ← c.before.ring-at.ensures.0) c.ring-clearance.ensures
 
 returns-2 : tie.Need-returns-2
 returns-2 c = rw (← c.before.inside-piece.ensures, ← c.before.before.rings-square.ensures) c.with_root.ensures

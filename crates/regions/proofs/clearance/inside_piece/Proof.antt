@@ -7,7 +7,7 @@ use native.Mathlib.Omega.{arith}
 use borrow.Author.Rules.{rules}
 use borrow.Author.Tests.{not-true, not-false}
 use lib.ListN.{length, drop}
-use Rattle.regions.specs.Ring.{sum, outer, holes, rings_from, piece_of, rings-step, rings_end, sum_step, first-ring, first_sum}
+use Rattle.regions.specs.Ring.{sum, outer, holes, rings_from, piece_of, rings_step, rings_end, sum_step, first_ring, first_sum}
 use Rattle.regions.specs.Clearance.{in_any, within}
 use Rattle.regions.proofs.clearance.inside_piece.Statement.{statement}
 use Rattle.regions.proofs.clearance.inside_piece.Tie as tie
@@ -30,13 +30,13 @@ unfolding within outer holes in_any
 returns c =
     let s = c.before.before.before.before.before.before in
     let e : length s.args.sizes.now ≤ 1 = omega arith in
-    rw (first-ring _ _ s.requires.0, rings_end _ _ _ 1 e, and-true, ← c.before.before.ring-at.ensures.0) c.before.point-in-polygon.ensures
+    rw (first_ring _ _ s.requires.0, rings_end _ _ _ 1 e, and-true, ← c.before.before.ring-at.ensures.0) c.before.point-in-polygon.ensures
 
 returns-2 : tie.Need-returns-2 invariant-loop decreases-loop
 unfolding within outer
 returns-2 c =
     rw (
-      first-ring _ _ c.before.before.before.before.before.before.before.requires.0,
+      first_ring _ _ c.before.before.before.before.before.before.before.requires.0,
       ← c.before.before.before.ring-at.ensures.0,
       ← c.before.before.point-in-polygon.ensures,
       not-true c.before.before.point-in-polygon.result c.if2.true,
@@ -48,7 +48,7 @@ loop-holds c = (
   search rules,
   omega (arith, first_sum c.before.before.before.before.before.before.before.args.sizes.now c.before.before.before.before.before.before.before.requires.0),
   rw (
-    first-ring _ _ c.before.before.before.before.before.before.before.requires.0,
+    first_ring _ _ c.before.before.before.before.before.before.before.requires.0,
     ← c.before.before.before.ring-at.ensures.0,
     ← c.before.before.point-in-polygon.ensures,
     not-false c.before.before.point-in-polygon.result c.if2.false,
@@ -63,7 +63,7 @@ unfolding in_any
 returns-3 c =
     rw (
       c.before.before.before.before.before.loop.invariant.2,
-      rings-step _ _ _ _ c.before.before.before.before.loop-test.true,
+      rings_step _ _ _ _ c.before.before.before.before.loop-test.true,
       ← c.before.before.ring-at2.ensures.0,
       ← c.before.point-in-polygon2.ensures,
       c.if3.true,
@@ -80,7 +80,7 @@ loop-again c =
       omega (arith, sum_step c.before.before.before.before.before.before.before.before.before.before.before.before.before.args.sizes.now c.before.before.before.before.before.loop.k h),
       rw (
         c.before.before.before.before.before.loop.invariant.2,
-        rings-step _ _ _ _ h,
+        rings_step _ _ _ _ h,
         ← c.before.before.ring-at2.ensures.0,
         ← c.before.point-in-polygon2.ensures,
         c.if3.false,

@@ -10,7 +10,7 @@ use borrow.Author.Tests.{lt-ltb}
 use lib.ListN.{length}
 use Rattle.glyphs.specs.Points.{x_at, y_at}
 use Rattle.regions.specs.Squares.{least_after, least_from, least_of_ring, infinite}
-use Rattle.regions.specs.Least.{of-halves}
+use Rattle.regions.specs.Least.{of_halves}
 use Rattle.regions.specs.Walk.{next_is, in_first, in_second, its_square}
 use Rattle.regions.proofs.clearance.ring_square.Statement.{statement}
 use Rattle.regions.proofs.clearance.ring_square.Tie as tie
@@ -78,7 +78,7 @@ returns-2 c =
     let n = length a.ring.now / 2 in
     let done = le_antisymm l.loop.invariant.0 c.before.before.loop-test.false in
     c.lesser.ensures
-    ∙ rw (c.before.with-last.ensures, l.loop.invariant.3, done) (of-halves a.px a.py a.start a.ring.now (n / 2) left.if1.false (search rules))
+    ∙ rw (c.before.with-last.ensures, l.loop.invariant.3, done) (of_halves a.px a.py a.start a.ring.now (n / 2) left.if1.false (search rules))
 
 pub ring-square-spec : {M : Type 1} → statement M
 unfolding least_of_ring

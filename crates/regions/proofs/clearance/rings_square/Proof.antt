@@ -6,7 +6,7 @@ use mathlib.Core.List.{foldl}
 use native.Mathlib.Omega.{arith}
 use borrow.Author.Rules.{rules}
 use lib.ListN.{length, drop}
-use Rattle.regions.specs.Ring.{sum, rings_from, piece_of, rings-step, rings_end, sum_step}
+use Rattle.regions.specs.Ring.{sum, rings_from, piece_of, rings_step, rings_end, sum_step}
 use Rattle.regions.specs.Squares.{least_of_ring, least_of_rings, infinite}
 use Rattle.regions.proofs.clearance.rings_square.Statement.{statement}
 use Rattle.regions.proofs.clearance.rings_square.Tie as tie
@@ -38,7 +38,7 @@ loop-again c =
     let h = c.before.before.before.loop-test.true in (
       search rules,
       omega (arith, sum_step s l.k h),
-      rw (l.invariant.2, rings-step _ s _ _ h, ← c.before.ring-at.ensures.0, c.ring-square.ensures),
+      rw (l.invariant.2, rings_step _ s _ _ h, ← c.before.ring-at.ensures.0, c.ring-square.ensures),
     )
 
 returns : tie.Need-returns invariant-loop decreases-loop

@@ -11,7 +11,7 @@ use lib.Dec.{eqb}
 use lib.ListN.{length, drop}
 use lib.Ieee.{Float}
 use Rattle.glyphs.specs.Points.{Ring}
-use Rattle.regions.specs.Ring.{Piece, sum, outer, holes, rings_from, piece_of, rings-step, rings_end, sum_step}
+use Rattle.regions.specs.Ring.{Piece, sum, outer, holes, rings_from, piece_of, rings_step, rings_end, sum_step}
 use Rattle.regions.specs.Inside.{point_in_polygon}
 use Rattle.regions.specs.Clearance.{in_any, within}
 use Rattle.regions.specs.Four.{Which, at, told, all_told}
@@ -62,7 +62,7 @@ loop-again c =
       omega (arith, sum_step s l.i h),
       λ k. rw (
         l.invariant.2 k,
-        rings-step _ s _ _ h,
+        rings_step _ s _ _ h,
         passed,
         ← c.before.before.ring-at.ensures.0,
         ← c.before.in-polygon.ensures k,

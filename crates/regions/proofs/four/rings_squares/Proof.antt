@@ -7,7 +7,7 @@ use native.Mathlib.Omega.{arith}
 use borrow.Author.Rules.{rules}
 use lib.ListN.{length, drop}
 use Rattle.float.specs.Ops.{◌/ᶠ◌, 0ᶠ, 1ᶠ}
-use Rattle.regions.specs.Ring.{sum, rings_from, piece_of, rings-step, rings_end, sum_step}
+use Rattle.regions.specs.Ring.{sum, rings_from, piece_of, rings_step, rings_end, sum_step}
 use Rattle.regions.specs.Squares.{least_of_ring, least_of_rings, infinite}
 use Rattle.regions.specs.Four.{Which, at, all_at}
 use Rattle.regions.proofs.four.rings_squares.Statement.{statement}
@@ -39,7 +39,7 @@ loop-again c =
     let h = c.before.before.before.loop-test.true in (
       search rules,
       omega (arith, sum_step s l.i h),
-      λ k. rw (l.invariant.2 k, rings-step _ s _ _ h, ← c.before.ring-at.ensures.0, c.ring-squares.ensures k),
+      λ k. rw (l.invariant.2 k, rings_step _ s _ _ h, ← c.before.ring-at.ensures.0, c.ring-squares.ensures k),
     )
 
 returns : tie.Need-returns invariant-loop decreases-loop

@@ -13,7 +13,7 @@ use Rattle.laws.specs.Truth.{yes}
 use Rattle.float.specs.Ops.{◌≤ᶠ◌, ◌<ᶠ◌}
 use Rattle.float.specs.Order.{sqrt}
 use Rattle.float.specs.Laws.Compare.{le_lt_trans}
-use Rattle.regions.specs.Ring.{sum, rings_from, piece_of, rings-step, rings_end, sum_step}
+use Rattle.regions.specs.Ring.{sum, rings_from, piece_of, rings_step, rings_end, sum_step}
 use Rattle.regions.specs.Clearance.{min_dist_to_rings}
 use Rattle.regions.specs.Squares.{least_of_ring, least_of_rings, infinite}
 use Rattle.regions.specs.Least.{Good, ∞-good, ring_good, rings_fall, least_root}
@@ -50,7 +50,7 @@ left :
 left c =
     rw (
       c.before.before.before.before.loop.invariant.3,
-      rings-step _ _ _ _ c.before.before.before.loop-test.true,
+      rings_step _ _ _ _ c.before.before.before.loop-test.true,
       ← c.before.ring-at.ensures.0,
       c.ring-square.ensures,
     )

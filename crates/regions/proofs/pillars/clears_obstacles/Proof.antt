@@ -6,7 +6,7 @@ use native.Mathlib.Nat.{sub-zero}
 use borrow.Author.Rules.{rules}
 use borrow.Author.Tests.{not-true, not-false}
 use lib.ListN.{length}
-use Rattle.glyphs.specs.Rect.{rects_from, rectangles, clear_of_obstacles, rects-step, rects_end}
+use Rattle.glyphs.specs.Rect.{rects_from, rectangles, clear_of_obstacles, rects_step, rects_end}
 use Rattle.regions.specs.Pillars.{rect_root}
 use Rattle.regions.proofs.pillars.clears_obstacles.Statement.{statement}
 use Rattle.regions.proofs.pillars.clears_obstacles.Tie as tie
@@ -29,7 +29,7 @@ unfolding clear_of_obstacles
 returns c =
     rw (
       c.before.before.before.before.before.loop.invariant.2,
-      rects-step _ _ _ c.before.before.before.before.loop-test.true,
+      rects_step _ _ _ c.before.before.before.before.loop-test.true,
       ← c.before.before.before.obstacle.ensures,
       rect_root,
       ← c.before.before.rect-square.ensures,
@@ -44,7 +44,7 @@ loop-again c = (
   search rules,
   rw (
     c.before.before.before.before.before.loop.invariant.2,
-    rects-step _ _ _ c.before.before.before.before.loop-test.true,
+    rects_step _ _ _ c.before.before.before.before.loop-test.true,
     ← c.before.before.before.obstacle.ensures,
     rect_root,
     ← c.before.before.rect-square.ensures,

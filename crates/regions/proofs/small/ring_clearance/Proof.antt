@@ -13,7 +13,7 @@ use Rattle.float.specs.Ops.{∞}
 use Rattle.glyphs.specs.Points.{x_at, y_at}
 use Rattle.regions.specs.Inside.{inside_after, point_in_polygon}
 use Rattle.regions.specs.Squares.{least_after, least_from, least_of_ring, infinite}
-use Rattle.regions.specs.Least.{of-halves}
+use Rattle.regions.specs.Least.{of_halves}
 use Rattle.regions.specs.Walk.{next_is, in_first, in_second, its_square, its_crossing}
 use Rattle.regions.specs.Turns.{turns_from, differ, turns_of_halves}
 use Rattle.regions.proofs.small.ring_clearance.Statement.{statement}
@@ -94,7 +94,7 @@ returns c =
     let n = length ring / 2 in
     let done = le_antisymm l.loop.invariant.0 c.before.before.before.before.loop-test.false in
     let least : last.before.lesser.result ≡ least_of_ring a.px a.py ∞ ring =
-    last.before.lesser.ensures ∙ rw (last.before.before.with-last.ensures, l.loop.invariant.3, done) (of-halves a.px a.py ∞ ring (n / 2) (search rules) (search rules)) in
+    last.before.lesser.ensures ∙ rw (last.before.before.with-last.ensures, l.loop.invariant.3, done) (of_halves a.px a.py ∞ ring (n / 2) (search rules) (search rules)) in
     let turns : not (beq l.loop.turned last.turned-by-last.result) ≡ inside_after a.px a.py ring n n =
     differ l.loop.turned last.turned-by-last.result ∙ rw (last.turned-by-last.ensures, l.loop.invariant.5, done) (turns_of_halves a.px a.py ring n (n / 2) (search rules) (search rules)) in
     rw (le-ltb n 3 (search rules), ← turns, ← least) c.with_root.ensures

@@ -9,7 +9,7 @@ use Rattle.glyphs.specs.Spots.{spots_of}
 use Rattle.regions.specs.Ring.{piece_of}
 use Rattle.regions.specs.Unrooted.{rooted}
 use Rattle.relax.specs.Field.{told}
-use Rattle.relax.specs.Moves.{told_of, first_accepted, first-refused, first-clear, none_accepted}
+use Rattle.relax.specs.Moves.{told_of, first_accepted, first_refused, first_clear, none_accepted}
 use Rattle.relax.proofs.moves.first_accepted.Statement.{statement}
 use Rattle.relax.proofs.moves.first_accepted.Tie as tie
 
@@ -31,7 +31,7 @@ returns c =
     let obstacles = rectangles a.obstacles.now in
     rw (
       l.invariant,
-      first-clear a.field piece obstacles a.i a.spots.now a.honoring a.towards (omega arith) q.result q.ensures l.left l.step
+      first_clear a.field piece obstacles a.i a.spots.now a.honoring a.towards (omega arith) q.result q.ensures l.left l.step
           (rooted c.before.answer.given.0.0)
           (sym c.before.before.before.accepts.ensures ∙ ap told c.before.answer.given.1),
     )
@@ -46,7 +46,7 @@ returns-2 c =
     let obstacles = rectangles a.obstacles.now in
     rw (
       l.invariant,
-      first-refused a.field piece obstacles a.i a.spots.now a.honoring a.towards (omega arith) q.result q.ensures l.left l.step
+      first_refused a.field piece obstacles a.i a.spots.now a.honoring a.towards (omega arith) q.result q.ensures l.left l.step
           (sym c.before.before.before.accepts.ensures ∙ ap told c.before.enum_told.given.1),
       c.if1.true,
       none_accepted,
@@ -64,7 +64,7 @@ loop-again c =
     rw (
       k,
       l.invariant,
-      first-refused a.field piece obstacles a.i a.spots.now a.honoring a.towards (omega arith) q.result q.ensures l.left l.step
+      first_refused a.field piece obstacles a.i a.spots.now a.honoring a.towards (omega arith) q.result q.ensures l.left l.step
           (sym c.before.before.before.accepts.ensures ∙ ap told c.before.enum_told.given.1),
     )
 

@@ -8,7 +8,7 @@ use lib.ListN.{length, take, drop}
 use borrow.Author.Rules.{rules}
 use Rattle.glyphs.specs.Spots.{spots_of, spots_at_lem, length_spots}
 use Rattle.relax.specs.Field.{at, no_force, push_of, pushes}
-use Rattle.relax.specs.Others.{push-others}
+use Rattle.relax.specs.Others.{push_others}
 use Rattle.relax.proofs.push.push_others.Statement.{statement}
 use Rattle.relax.proofs.push.push_others.Tie as tie
 
@@ -23,7 +23,7 @@ others c =
     let s = spots_of a.spots.now in
     let h : a.i < length s = simp length_spots (omega arith) in
     let p : at s a.i ≡ c.spot.result = rw (spots_at_lem a.spots.now a.i _ (omega arith), c.spot.ensures) in
-    rw p (push-others a.influence c.spot.result a.i s no_force h)
+    rw p (push_others a.influence c.spot.result a.i s no_force h)
 
 returns : tie.Need-returns
 returns c = c.push-few.ensures ∙ sym (others c.before.before)

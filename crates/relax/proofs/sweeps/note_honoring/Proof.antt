@@ -5,10 +5,10 @@ use Prim.Native.Nat.{◌≤◌, ◌-◌}
 use native.Mathlib.Omega.{arith}
 use lib.ListN.{length, length-set}
 use borrow.Author.Rules.{rules}
-use Rattle.laws.specs.Lists.{tabulate, written, write-next}
+use Rattle.laws.specs.Lists.{tabulate, written, write_next}
 use Rattle.glyphs.specs.Rect.{rectangles}
 use Rattle.regions.specs.Margin.{least_of_margin, margin_own}
-use Rattle.relax.specs.Notes.{flag_at, flags-noted}
+use Rattle.relax.specs.Notes.{flag_at, flags_noted}
 use Rattle.relax.proofs.sweeps.note_honoring.Statement.{statement}
 use Rattle.relax.proofs.sweeps.note_honoring.Tie as tie
 
@@ -34,7 +34,7 @@ loop-again c =
     let e : v.result ≡ flag_at (rectangles a.obstacles.now) a.inset a.spots.now l.i = cc (least_of_margin _ _ c.before.before.before.before.before.of.ensures) in (
       search rules,
       length-set l.honoring l.i v.result ∙ l.invariant.1,
-      write-next (flag_at (rectangles a.obstacles.now) a.inset a.spots.now) l.honoring a.honoring.now l.i v.result l.invariant.2 e
+      write_next (flag_at (rectangles a.obstacles.now) a.inset a.spots.now) l.honoring a.honoring.now l.i v.result l.invariant.2 e
           (search rules),
     )
 
@@ -43,7 +43,7 @@ returns c =
     let l = c.before.loop in
     let a = c.before.before.before.before.before.before.args in
     let e : l.i ≡ length a.honoring.now = omega arith in
-    l.invariant.2 ∙ rw (e, flags-noted (rectangles a.obstacles.now) a.inset a.spots.now a.honoring.now (omega arith))
+    l.invariant.2 ∙ rw (e, flags_noted (rectangles a.obstacles.now) a.inset a.spots.now a.honoring.now (omega arith))
 
 pub note-honoring-spec : {M : Type 1} → statement M
 note-honoring-spec =

@@ -5,9 +5,9 @@ use Prim.Native.Nat.{◌≤◌, ◌-◌}
 use native.Mathlib.Omega.{arith}
 use lib.ListN.{length, length-set}
 use borrow.Author.Rules.{rules}
-use Rattle.laws.specs.Lists.{tabulate, written, write-next}
+use Rattle.laws.specs.Lists.{tabulate, written, write_next}
 use Rattle.regions.specs.Ring.{piece_of}
-use Rattle.relax.specs.Notes.{unrooted_at, unrooted-noted}
+use Rattle.relax.specs.Notes.{unrooted_at, unrooted_noted}
 use Rattle.relax.proofs.sweeps.note_unrooted.Statement.{statement}
 use Rattle.relax.proofs.sweeps.note_unrooted.Tie as tie
 
@@ -30,7 +30,7 @@ loop-again c =
     let e : v.result ≡ unrooted_at (piece_of a.sizes.now a.coords.now) a.spots.now l.i = cc in (
       search rules,
       length-set l.unrooted l.i v.result ∙ l.invariant.1,
-      write-next (unrooted_at (piece_of a.sizes.now a.coords.now) a.spots.now) l.unrooted a.unrooted.now l.i v.result l.invariant.2 e
+      write_next (unrooted_at (piece_of a.sizes.now a.coords.now) a.spots.now) l.unrooted a.unrooted.now l.i v.result l.invariant.2 e
           (search rules),
     )
 
@@ -39,7 +39,7 @@ returns c =
     let l = c.before.loop in
     let a = c.before.before.before.before.before.before.args in
     let e : l.i ≡ length a.unrooted.now = omega arith in
-    l.invariant.2 ∙ rw (e, unrooted-noted (piece_of a.sizes.now a.coords.now) a.spots.now a.unrooted.now (omega arith))
+    l.invariant.2 ∙ rw (e, unrooted_noted (piece_of a.sizes.now a.coords.now) a.spots.now a.unrooted.now (omega arith))
 
 pub note-unrooted-spec : {M : Type 1} → statement M
 note-unrooted-spec =

@@ -12,7 +12,7 @@ use Rattle.relax.specs.Field.{field_sound}
 use Rattle.relax.specs.Scatter.{idle, relax_sweeps, around, clearances_of}
 use Rattle.relax.specs.Moves.{scatter_of}
 use Rattle.relax.specs.Notes.{flags_back, noted_roots}
-use Rattle.relax.specs.Ends.{idle-end, busy-end}
+use Rattle.relax.specs.Ends.{idle_end, busy_end}
 use Rattle.relax.proofs.sweeps.relax_scatter.Statement.{statement}
 use Rattle.relax.proofs.sweeps.relax_scatter.Tie as tie
 
@@ -23,7 +23,7 @@ returns c =
     let piece = piece_of a.sizes.now a.coords.now in
     let n : length c.before.before.before.before.before.before.before.before.before.note-honoring.new.1.0 ≡ length points = simp length_spots (omega arith) in
     let h : idle (length points) a.spacing ≡ true = rw (← n, ← c.before.idle.ensures) c.if1.true in
-    let e = idle-end a.numbers points piece (rectangles a.obstacles.now) a.spacing a.inset a.spots.now (length a.unrooted.now) refl (omega arith) h in
+    let e = idle_end a.numbers points piece (rectangles a.obstacles.now) a.spacing a.inset a.spots.now (length a.unrooted.now) refl (omega arith) h in
     (e.0, (rw (c.before.before.before.before.note-unrooted.ensures, noted_roots) e.1, c.before.before.before.before.before.before.before.before.before.note-honoring.ensures))
 
 relax-sweeps-requires : tie.Need-relax-sweeps-requires
@@ -49,7 +49,7 @@ returns-2 c =
     ≡ relax_sweeps a.numbers (around a.numbers points piece (rectangles a.obstacles.now) a.spacing a.inset)
     (record { points = points; clearance = clearances_of piece points }) =
     r.ensures ∙ rw (c.before.before.before.before.before.before.before.before.of.ensures, c.before.before.before.before.before.before.before.before.before.before.before.before.before.before.before.before.before.before.note-honoring.ensures, flags_back, c.before.before.before.before.before.before.before.before.before.before.before.before.before.note-unrooted.ensures, noted_roots) in
-    let e = busy-end a.numbers points piece (rectangles a.obstacles.now) a.spacing a.inset spots unrooted (length a.unrooted.now)
+    let e = busy_end a.numbers points piece (rectangles a.obstacles.now) a.spacing a.inset spots unrooted (length a.unrooted.now)
     (omega (arith, c.before.before.before.before.before.before.before.before.before.before.before.before.before.before.before.before.before.before.before.before.before.before.before.before.before.before.before.requires.0, r.auto.1.1.0))
     h
     s in

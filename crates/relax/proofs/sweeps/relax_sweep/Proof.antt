@@ -48,7 +48,7 @@ loop-again c =
       search rules,
       l.invariant.3
           ∙ fold_step (relax_point a.numbers e step) (scatter_of l.spots l.unrooted) (up_to n) l.i 0 h
-          ∙ rw (up_to_at n l.i 0 (omega arith), ← c.before.before.before.before.relax-point.ensures),
+          ∙ rw (up_to_at n l.i 0 (omega arith), ← c.before.before.before.before.relax_point_lem.ensures),
     )
 
 returns : tie.Need-returns invariant-loop decreases-loop

@@ -7,7 +7,7 @@ use Rattle.glyphs.specs.declared.bounds.Bounds.TheVariants.{Nothing}
 use Rattle.glyphs.specs.Rect.{rectangles}
 use Rattle.regions.specs.Ring.{piece_of}
 use Rattle.scatter.specs.declared.low.Anchor.TheVariants.{At}
-use Rattle.scatter.specs.Passes.{no_anchor, unbounded_anchor, anchor-is}
+use Rattle.scatter.specs.Passes.{no_anchor, unbounded_anchor, anchor_is}
 use Rattle.scatter.proofs.low.lone_anchor.Statement.{statement}
 use Rattle.scatter.proofs.low.lone_anchor.Tie as tie
 
@@ -37,7 +37,7 @@ returns-3 c =
     let a = s.args in
     let x = box.bounds.given.0 in
     ap At c.escape-obstacles.ensures
-    ∙ anchor-is a.poi (piece_of a.sizes.now a.coords.now) a.n a.ctx (rectangles a.obstacles.now) found.before.if1.false x.0 x.1.0 x.1.1.0 x.1.1.1.0
+    ∙ anchor_is a.poi (piece_of a.sizes.now a.coords.now) a.n a.ctx (rectangles a.obstacles.now) found.before.if1.false x.0 x.1.0 x.1.1.0 x.1.1.1.0
     (sym found.piece-bounds.ensures ∙ box.bounds.given.1) _ _ inset.inset.ensures looked.near-obstacles.ensures.1
 
 pub lone-anchor-spec : {M : Type 1} → statement M

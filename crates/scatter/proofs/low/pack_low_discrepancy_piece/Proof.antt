@@ -11,7 +11,7 @@ use Rattle.glyphs.specs.declared.rect.Point.{Point}
 use Rattle.glyphs.specs.Rect.{rectangles}
 use Rattle.glyphs.specs.Spots.{flat}
 use Rattle.regions.specs.Ring.{piece_of}
-use Rattle.scatter.specs.Passes.{no_marks, unbounded, scatter-is}
+use Rattle.scatter.specs.Passes.{no_marks, unbounded, scatter_is}
 use Rattle.scatter.proofs.low.pack_low_discrepancy_piece.Statement.{statement}
 use Rattle.scatter.proofs.low.pack_low_discrepancy_piece.Tie as tie
 
@@ -44,7 +44,7 @@ returns-3 c =
     let a = found.before.before.before.before.before.before.before.args in
     let x = box.bounds.given.0 in
     let e =
-    scatter-is a.anchor (piece_of a.sizes.now a.coords.now) a.n a.ctx (rectangles a.obstacles.now) found.before.if1.false x.0 x.1.0 x.1.1.0 x.1.1.1.0
+    scatter_is a.anchor (piece_of a.sizes.now a.coords.now) a.n a.ctx (rectangles a.obstacles.now) found.before.if1.false x.0 x.1.0 x.1.1.0 x.1.1.1.0
     (sym found.piece-bounds.ensures ∙ box.bounds.given.1) _ _ inset.inset.ensures looked.near-obstacles.ensures.1 in
     (packed.passes.ensures.0 ∙ ap length e, packed.passes.ensures.1 ∙ ap (λ (ps : List Point). written (flat ps) a.spots.now) e)
 

@@ -8,7 +8,7 @@ use lib.Seq.{length-take-le}
 use Rattle.glyphs.specs.Rect.{rectangles}
 use Rattle.glyphs.specs.Spots.{spots_of, spots_take}
 use Rattle.regions.specs.Ring.{piece_of}
-use Rattle.relax.specs.Kept.{length-relaxed}
+use Rattle.relax.specs.Kept.{length_relaxed}
 use Rattle.relax.specs.Scatter.{relax_scatter}
 use Rattle.lattice.specs.Context.{inset, spacing}
 use Rattle.scatter.specs.Front.{length_first, front_replaced}
@@ -29,7 +29,7 @@ returns c =
     let near = rectangles a.near.now in
     let ps = take a.count (spots_of a.spots.now) in
     let n : length (relax_scatter a.numbers ps piece near (spacing a.ctx) (inset a.ctx)) ≡ a.count =
-    length-relaxed a.numbers ps piece near (spacing a.ctx) (inset a.ctx) ∙ length_first a.count a.spots.now s.requires.4 in
+    length_relaxed a.numbers ps piece near (spacing a.ctx) (inset a.ctx) ∙ length_first a.count a.spots.now s.requires.4 in
     front_replaced a.count (relax_scatter a.numbers ps piece near (spacing a.ctx) (inset a.ctx)) a.spots.now _
     (called.relax-scatter.ensures.0 ∙ rw (spots_take, called.before.inset.ensures, called.before.before.spacing.ensures)) n
 

@@ -9,7 +9,7 @@ use mir.Val.{bits}
 use lib.ListN.{length}
 use Rattle.glyphs.specs.Rect.{rectangles}
 use Rattle.regions.specs.Ring.{piece_of}
-use Rattle.scatter.specs.Darts.{aimed, pass_from, trying, held-end, next_glyph, no_glyph, out_of_attempts, missed, landed}
+use Rattle.scatter.specs.Darts.{aimed, pass_from, trying, held_end, next_glyph, no_glyph, out_of_attempts, missed, landed}
 use Rattle.scatter.specs.Front.{Front, front_start}
 use Rattle.scatter.proofs.random.throw_glyphs.Statement.{statement}
 use Rattle.scatter.proofs.random.throw_glyphs.Tie as tie
@@ -103,7 +103,7 @@ returns c =
     let g = c.before.glyphs in
     let s = c.before.before.before.before.before.before.before.before in
     let a = s.args in
-    held-end g.count g.rng g.spots a.spots.now _ g.invariant.1 g.invariant.2 (omega (arith, g.invariant.0, s.requires.4))
+    held_end g.count g.rng g.spots a.spots.now _ g.invariant.1 g.invariant.2 (omega (arith, g.invariant.0, s.requires.4))
     (sym (no_glyph (piece_of a.sizes.now a.coords.now) a.n a.attempts a.ctx (rectangles a.near.now) a.range a.honor g.count g.rng g.spots (omega arith)) ∙ g.invariant.4)
 
 same-length-2 : tie.Need-same-length-2 invariant-loop decreases-loop invariant-glyphs decreases-glyphs
@@ -116,7 +116,7 @@ returns-2 c =
     let s = c.before.before.before.before.before.before.before.before.before.before in
     let a = s.args in
     let front : Front l.count l.spots a.spots.now = rw (l.invariant.3, l.invariant.1) g.invariant.2 in
-    held-end l.count l.rng l.spots a.spots.now _ (ap length l.invariant.3 ∙ g.invariant.1) front (omega (arith, l.invariant.0, s.requires.4))
+    held_end l.count l.rng l.spots a.spots.now _ (ap length l.invariant.3 ∙ g.invariant.1) front (omega (arith, l.invariant.0, s.requires.4))
     (sym (out_of_attempts (piece_of a.sizes.now a.coords.now) a.n a.attempts a.ctx (rectangles a.near.now) a.range a.honor l.t l.count l.rng l.spots (omega arith)) ∙ l.invariant.5 ∙ g.invariant.4)
 
 pub throw-glyphs-spec : {M : Type 1} → statement M

@@ -7,7 +7,7 @@ use Rattle.glyphs.specs.Rect.{rectangles}
 use Rattle.regions.specs.Margin.{margin_of}
 use Rattle.regions.specs.Ring.{piece_of}
 use Rattle.lattice.specs.Around.{length_rectangles}
-use Rattle.scatter.specs.Darts.{few_first, one_pass, second-pass}
+use Rattle.scatter.specs.Darts.{few_first, one_pass, second_pass}
 use Rattle.scatter.proofs.random.throw_passes.Statement.{statement}
 use Rattle.scatter.proofs.random.throw_passes.Tie as tie
 
@@ -38,7 +38,7 @@ returns-2 : tie.Need-returns-2
 returns-2 c =
     let first = c.before.before.before.before.before.before.before.before.throw-glyphs in
     let a = c.before.before.before.before.before.before.before.before.before.before.before.before.before.before.before.before.args in
-    second-pass (piece_of a.sizes.now a.coords.now) a.n a.attempts a.ctx (rectangles a.near.now) a.range a.rng a.spots.now _ _ _ _ (rw length_rectangles c.before.before.before.before.if1.false) first.ensures c.before.before.throw-glyphs2.ensures
+    second_pass (piece_of a.sizes.now a.coords.now) a.n a.attempts a.ctx (rectangles a.near.now) a.range a.rng a.spots.now _ _ _ _ (rw length_rectangles c.before.before.before.before.if1.false) first.ensures c.before.before.throw-glyphs2.ensures
 
 pub throw-passes-spec : {M : Type 1} → statement M
 throw-passes-spec =

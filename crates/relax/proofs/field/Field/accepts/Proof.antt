@@ -7,7 +7,7 @@ use Rattle.float.specs.Ops.{◌<ᶠ◌}
 use Rattle.regions.specs.Margin.{margin_own}
 use Rattle.regions.specs.Unrooted.{rooted, rooted_clearance}
 use Rattle.relax.specs.Field.{told}
-use Rattle.relax.specs.Others.{accepts-reordered, below_margin}
+use Rattle.relax.specs.Others.{accepts_reordered, below_margin}
 use Rattle.relax.proofs.field.Field.accepts.Statement.{statement}
 use Rattle.relax.proofs.field.Field.accepts.Tie as tie
 
@@ -15,7 +15,7 @@ returns : tie.Need-returns
 unfolding told
 returns c =
     let t = c.before.clear-of-others in
-    rw (accepts-reordered, ← t.ensures, not-true t.result c.if1.true)
+    rw (accepts_reordered, ← t.ensures, not-true t.result c.if1.true)
 
 returns-2 : tie.Need-returns-2
 unfolding told
@@ -23,7 +23,7 @@ returns-2 c =
     let t = c.before.before.before.clear-of-others in
     let s = c.before.clear-if in
     rw (
-      accepts-reordered,
+      accepts_reordered,
       ← t.ensures,
       not-false t.result c.before.before.if1.false,
       ← s.ensures,
@@ -43,7 +43,7 @@ returns-3 c =
     let t = c.before.before.before.before.before.before.clear-of-others in
     let s = c.before.before.before.before.clear-if in
     rw (
-      accepts-reordered,
+      accepts_reordered,
       ← t.ensures,
       not-false t.result c.before.before.before.before.before.if1.false,
       ← s.ensures,
@@ -60,7 +60,7 @@ returns-4 c =
     let t = c.before.before.before.before.before.before.clear-of-others in
     let s = c.before.before.before.before.clear-if in
     rw (
-      accepts-reordered,
+      accepts_reordered,
       ← t.ensures,
       not-false t.result c.before.before.before.before.before.if1.false,
       ← s.ensures,

@@ -5,7 +5,7 @@ use native.Mathlib.Omega.{arith}
 use lib.ListN.{length}
 use borrow.Author.Rules.{rules}
 use Rattle.glyphs.specs.Spots.{spots_of, spots_at_lem, length_spots}
-use Rattle.relax.specs.Others.{clear-others, clear-counted}
+use Rattle.relax.specs.Others.{clear_others, clear_counted}
 use Rattle.relax.proofs.field.Field.clear_of_others.Statement.{statement}
 use Rattle.relax.proofs.field.Field.clear_of_others.Tie as tie
 
@@ -15,7 +15,7 @@ returns c =
     let q = c.before.before.spot in
     let h : a.i < length (spots_of a.spots.now) = simp length_spots (omega arith) in
     rw (
-      clear-counted _ _ _ a.i (spots_of a.spots.now) q.result h,
+      clear_counted _ _ _ a.i (spots_of a.spots.now) q.result h,
       spots_at_lem a.spots.now a.i q.result (omega arith),
       ← q.ensures,
       ← c.before.apart.ensures,
@@ -27,7 +27,7 @@ returns-2 c =
     let a = c.before.before.before.before.before.before.before.args in
     let h : a.i < length (spots_of a.spots.now) = simp length_spots (omega arith) in
     rw (
-      clear-others _ _ _ a.i (spots_of a.spots.now) h,
+      clear_others _ _ _ a.i (spots_of a.spots.now) h,
       ← c.before.before.before.spots-before.ensures,
       ← c.before.spots-after.ensures,
       ← c.before.before.apart-from-all.ensures,

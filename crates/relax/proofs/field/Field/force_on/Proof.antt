@@ -25,7 +25,7 @@ returns c =
     let a = c.before.before.before.before.before.before.before.before.before.before.before.args in
     let q = c.before.before.before.before.spot in
     rw (
-      ← c.before.before.push-others.ensures,
+      ← c.before.before.push_others.ensures,
       ← said c.before.before.before.before.before.before.before,
       c.before.before.before.before.before.if1.true,
       spots_at_lem a.spots.now a.i _ (omega arith),
