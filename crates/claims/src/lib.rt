@@ -1,1 +1,2 @@
-// What holds of every sheet, proved of the definitions. It has no functions.
+//! What holds of every sheet, proved of the definitions. It has no functions.
+#![tactic(auto)]

@@ -1,7 +1,7 @@
 -- The waiting cells of the slice are those of the definition's list: equal as bags, so that the heap's first is the list's first.
 -- Rests on the laws of the order of leaving, and on cells told apart.
 use Rattle.std.specs.Prelude.{◌≡◌, ℕ, zero, suc, ◌+◌, ◌<◌, Bool, true, false, cond, ◌⊎◌, List, [], ◌∷◌, length, Float}
-use Rattle.std.proofs.Common.{zero_le, sym, ◌∙◌, true≢false, le_of_suc-le-suc, eq-or-lt_of_le}
+use Rattle.std.proofs.Common.{zero-le, sym, ◌∙◌, true≢false, le_of_suc-le-suc, eq-or-lt_of_le}
 use Rattle.std.proofs.Math.Path.{refl, ap, subst}
 use Rattle.std.proofs.Math.Logic.{inl, inr}
 use native.Mathlib.Omega.{arith}
@@ -154,7 +154,7 @@ module _ (halves l : List Float) (m : ℕ) where
   first_late h t n w =
       let a = is_itself h in
       let at = array_find h (cell_at l) m (omega (arith, w.bag (is_cell h))) in
-      late at.0 at.1 at.2 (eq-or-lt_of_le zero_le)
+      late at.0 at.1 at.2 (eq-or-lt_of_le zero-le)
     where
       late : (k : ℕ) → k < m → cell_at l k ≡ h → (0 ≡ k) ⊎ (0 < k) → leaves halves h (cell_at l 0) ≡ false
       late k b e c =

@@ -1,4 +1,6 @@
-// discs.rs: regions over their pieces, the radius, and all marks.
+//! discs.rs: regions over their pieces, the radius, and all marks.
+#![tactic(auto)]
+
 pub mod ceiling;
 pub mod options;
 pub mod piece;

@@ -1,5 +1,6 @@
-// Functions on `f64`, and products of `u64`, that the language lacks. Each of the former is equal to the definition of
-// its name in specs/.
+//! Functions on `f64`, and products of `u64`, that the language lacks. Each of the former is equal to the definition of
+//! its name in specs/.
+#![tactic(auto)]
 
 // Products of `u64` in full.
 mod wide;

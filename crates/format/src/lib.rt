@@ -1,4 +1,6 @@
-// The items of jobs and sheets, and a job's rings and pieces.
+//! The items of jobs and sheets, and a job's rings and pieces.
+#![tactic(auto)]
+
 pub mod numbers;
 pub mod pieces;
 pub mod words;

@@ -1,5 +1,7 @@
-// glyphs.rs, point.rs and rectangle.rs: options, points, obstacles and bounds; hash, stream, radical inverse and
-// quotas.
+//! glyphs.rs, point.rs and rectangle.rs: options, points, obstacles and bounds; hash, stream, radical inverse and
+//! quotas.
+#![tactic(auto)]
+
 pub mod bounds;
 pub mod halton;
 pub mod hash;

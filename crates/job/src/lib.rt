@@ -1,4 +1,6 @@
-// The reader of a job.
+//! The reader of a job.
+#![tactic(auto)]
+
 pub mod head;
 pub mod keys;
 pub mod read;

@@ -4,7 +4,7 @@ use Rattle.std.specs.Prelude.{◌≡◌, ℕ, zero, suc, ◌+◌, ◌-◌, ◌*�
 use Rattle.std.proofs.Math.Path.{sym}
 use Rattle.std.proofs.Common.{ap, ◌∙◌, add-one, T_not}
 use Rattle.std.proofs.Math.Bool.{and-true, and_assoc}
-use mathlib.Core.List.{map_append, foldl}
+use mathlib.Core.List.{map-append, foldl}
 use borrow.Author.Tests.{lt-ltb, le-ltb}
 use Rattle.std.proofs.Math.Dec.{not_T}
 use Rattle.std.specs.Float.{nan, inf, fin, binary64}
@@ -95,7 +95,7 @@ far_added y reach e m l b c x s = rw (far_edge c x y e.ax e.ay e.bx e.by reach s
 pub near_added : (y reach : Float) (e : Edge) (m : ℕ) (l : List Float) → m * 4 + 3 < length l → Added y reach e m l (m + 1) (put_edge l m e)
 unfolding keeps_edges edges_in edges_from
 near_added y reach e m l h c x s =
-    rw (rects_put l m (to_four e) h, map_append from_four (rects_from l 0 m) (to_four e ∷ [])) (all_last (keeps x y c) (map from_four (rects_from l 0 m)) e)
+    rw (rects_put l m (to_four e) h, map-append from_four (rects_from l 0 m) (to_four e ∷ [])) (all_last (keeps x y c) (map from_four (rects_from l 0 m)) e)
 
 -- ---- a ring's edges in turn
 module _ (y reach : Float) (ring : Ring) where

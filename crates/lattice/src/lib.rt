@@ -1,4 +1,6 @@
-// discs.rs: what a packing is at, escapes from obstacles, and the lattice packer.
+//! discs.rs: what a packing is at, escapes from obstacles, and the lattice packer.
+#![tactic(auto)]
+
 pub mod beside;
 pub mod context;
 pub mod count;

@@ -1,1 +1,2 @@
-// Laws that the proofs of every layer share. It has no functions.
+//! Laws that the proofs of every layer share. It has no functions.
+#![tactic(auto)]

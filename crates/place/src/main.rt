@@ -1,4 +1,6 @@
-// The job program: a job from standard input, its sheet or its refusal to standard output.
+//! The job program: a job from standard input, its sheet or its refusal to standard output.
+#![tactic(auto)]
+
 use libc::{STDIN_FILENO, STDOUT_FILENO};
 use marks::call::Planned;
 

@@ -1,4 +1,6 @@
-// The call from job bytes to sheet.
+//! The call from job bytes to sheet.
+#![tactic(auto)]
+
 ghost use Rattle.std.specs.Prelude.{◌≡◌, length};
 ghost use Rattle.job.specs.Head.{lent_fault};
 ghost use Rattle.job.specs.Plan.{plan_of};

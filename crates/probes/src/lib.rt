@@ -1,4 +1,6 @@
-// The inner layers for tests/differential and bench alone, as probes.h declares them: no entry of the product.
+//! The inner layers for tests/differential and bench alone, as probes.h declares them: no entry of the product.
+#![tactic(auto)]
+
 ghost use Rattle.std.specs.Prelude.{◌≡◌, ◌*◌, ◌/◌, ◌<◌, ◌≤◌, length};
 ghost use Rattle.float.specs.Ops.{◌≤ᶠ◌};
 ghost use Rattle.glyphs.specs.Rect.{rectangles};

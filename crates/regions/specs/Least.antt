@@ -1,6 +1,6 @@
 -- The root of the least square is the least distance, for every piece and place, NaN and infinity among them, and more edges never make it greater.
 -- Rests on the law that the lesser of two roots is the root of the lesser, and on the order of floats.
-use Prim.Native.Nat.{ℕ, zero, suc, ◌+◌, ◌-◌, ◌≤◌, zero_le}
+use Prim.Native.Nat.{ℕ, zero, suc, ◌+◌, ◌-◌, ◌≤◌, zero-le}
 use Rattle.std.specs.Prelude.{◌≡◌, Bool, ltb, Float}
 use Rattle.std.proofs.Math.Path.{refl, ap}
 use Rattle.std.proofs.Common.{sym, ◌∙◌, inl, inr, true≢false, eq-or-lt_of_le, le_of_suc-le-suc, le-ltb}
@@ -140,7 +140,7 @@ module _ (px py b : Float) (ring : Ring) (g : Good b) where
     where
       go : (t : Bool) → T (le (cond t b (least_after px py b ring (vertices ring) (vertices ring))) b)
       go true = le_self b g.number
-      go false = after_falls (vertices ring) 0 (vertices ring) zero_le
+      go false = after_falls (vertices ring) 0 (vertices ring) zero-le
 
 pub rings_fall : (px py b : Float) (rings : List Ring) → Good b → T (le (foldl (least_of_ring px py) b rings) b)
 rings_fall px py b [] g = le_self b g.number

@@ -1,5 +1,7 @@
-// polygon.rs and regions.rs: area, inside test and clearance of a piece. A piece is the sizes of
-// its rings in vertices, the outer ring first, and their coordinates, x and y in turn, ring after ring.
+//! polygon.rs and regions.rs: area, inside test and clearance of a piece. A piece is the sizes of
+//! its rings in vertices, the outer ring first, and their coordinates, x and y in turn, ring after ring.
+#![tactic(auto)]
+
 pub mod area;
 pub mod clearance;
 pub mod four;

@@ -1,4 +1,6 @@
-// relax.rs: a scatter of marks evened out.
+//! relax.rs: a scatter of marks evened out.
+#![tactic(auto)]
+
 pub mod field;
 pub mod moves;
 pub mod push;

@@ -2,7 +2,7 @@
 -- Rests on the root being nearest, and its digits all there.
 use Rattle.std.specs.Prelude.{◌≡◌, refl}
 use Rattle.std.proofs.Common.{sym, ap, ◌∙◌, subst, inl, inr, le_trans, le_of_eq, le_of_lt, lt_of_lt_of_le, lt_of_le_of_lt, lt_of_not-le, not-le_of_lt, le_of_suc-le-suc, div-mul-le_self, mul-pos, mul-le-mul, mul-le-mul_left, mul-le-mul_right, le_of_mul-le-mul_right, mul-lt-mul_of_pos_right, mul_assoc, le-div_iff_mul-le, arith, pow-add, pow_pos, pow_mono}
-use Prim.Native.Nat.{ℕ, zero, suc, ◌+◌, ◌-◌, ◌*◌, ◌/◌, ◌^◌, ◌≤◌, ◌<◌, zero_le, compare}
+use Prim.Native.Nat.{ℕ, zero, suc, ◌+◌, ◌-◌, ◌*◌, ◌/◌, ◌^◌, ◌≤◌, ◌<◌, zero-le, compare}
 use Rattle.std.proofs.Math.Nat.{lt-div-mul-add, pow-succ', mul-mul-mul_comm}
 use Rattle.std.specs.Float.Ieee.{size, nearest}
 use Rattle.std.specs.Float.Ieee.Digits.{size-lt, size_reaches}
@@ -154,7 +154,7 @@ in_steps n q j l = ap (λ (z : ℕ). q * z) (pow_split j (steps n) l) ∙ sym (m
 module _ (n : ℕ) where
   pub root_least : (a : ℕ) → Digits a → a * a ≤ n → a ≤ root n
   root_least a d h = subst (λ (z : ℕ). z ≤ root n) (sym d.is) (elim (lt_or_le d.j (steps n)) [
-    | inl l ↦ le_trans (le_of_lt (short d.q d.j (steps n) d.small l)) (mul-le-mul_right (2 ^ steps n) (le_trans (full_lead n (steps n) (lead_full n (lt_of_le_of_lt zero_le l))) (above n)))
+    | inl l ↦ le_trans (le_of_lt (short d.q d.j (steps n) d.small l)) (mul-le-mul_right (2 ^ steps n) (le_trans (full_lead n (steps n) (lead_full n (lt_of_le_of_lt zero-le l))) (above n)))
     | inr l ↦
         let e = in_steps n d.q d.j l in
         let c = d.q * 2 ^ (d.j - steps n) in
@@ -164,7 +164,7 @@ module _ (n : ℕ) where
   pub root_most : (b : ℕ) → Digits b → n ≤ b * b → root n ≤ b
   root_most b d h = elim (lt_or_le d.j (steps n)) [
     | inl l ↦
-        absurd (not-le_of_lt (short d.q d.j (steps n) d.small l) (le_trans (lead_full n (lt_of_le_of_lt zero_le l)) (le_trans (part_most n b h) (le_of_eq d.is))))
+        absurd (not-le_of_lt (short d.q d.j (steps n) d.small l) (le_trans (lead_full n (lt_of_le_of_lt zero-le l)) (le_trans (part_most n b h) (le_of_eq d.is))))
     | inr l ↦
         let e = in_steps n d.q d.j l in
         let c = d.q * 2 ^ (d.j - steps n) in

@@ -1,7 +1,7 @@
 -- The square root of a finite number that is not negative: how near, in order, and a number of 53 digits stays on its side.
 -- Rests on `Root`, the same for whole numbers of units squared, and the order of roots.
 use Rattle.std.specs.Prelude.{◌≡◌, refl, Bool, true, false, ℕ, zero, suc, ◌*◌, ◌/◌, ◌^◌, ◌≤◌, ◌<◌, ℤ, T, Float}
-use Rattle.std.proofs.Common.{sym, ap, ◌∙◌, subst, zero_le, le_trans, le_of_eq, le_of_lt, lt_of_le_of_lt, le_antisymm, mul_assoc, mul_right_comm, mul-pos, mul-le-mul_right, mul-div_cancel, zero-mul, arith, lit<}
+use Rattle.std.proofs.Common.{sym, ap, ◌∙◌, subst, zero-le, le_trans, le_of_eq, le_of_lt, lt_of_le_of_lt, le_antisymm, mul_assoc, mul_right_comm, mul-pos, mul-le-mul_right, mul-div_cancel, zero-mul, arith, lit<}
 use Rattle.std.proofs.Math.Dec.{lit≤}
 use Rattle.std.specs.Float.{nan, inf, fin, binary64}
 use Rattle.std.specs.Float.Ieee.{up, down, le}
@@ -46,7 +46,7 @@ unfolding nearest_root U
 root_value n h = units_val binary64 false (rest n) (steps n) h
 
 root_zero : (n : ℕ) → n ≡ 0 → root n ≡ 0
-root_zero n e = le_antisymm (root_most n 0 digits_zero (le_of_eq e)) zero_le
+root_zero n e = le_antisymm (root_most n 0 digits_zero (le_of_eq e)) zero-le
 
 sqrt_plus : (m : ℕ) (e : ℤ) → Num (fin false (suc m) e) → Rooted (fin false (suc m) e) (sqrt (fin false (suc m) e))
 unfolding root_of U

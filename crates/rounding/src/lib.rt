@@ -1,1 +1,2 @@
-// What rounding can do to a number: laws over exact values. It has no functions.
+//! What rounding can do to a number: laws over exact values. It has no functions.
+#![tactic(auto)]

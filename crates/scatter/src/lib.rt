@@ -1,4 +1,6 @@
-// discs.rs: the low-discrepancy and the random packer.
+//! discs.rs: the low-discrepancy and the random packer.
+#![tactic(auto)]
+
 pub mod cells;
 pub mod low;
 pub mod random;

@@ -1,4 +1,6 @@
-// The writer of a sheet.
+//! The writer of a sheet.
+#![tactic(auto)]
+
 ghost use Rattle.std.specs.Prelude.{◌≡◌, ◌+◌, ◌*◌, ◌≤◌, length, take, drop};
 ghost use mathlib.Core.List.{flat_map};
 ghost use Rattle.std.proofs.lemmas.List.Edits.{sets};

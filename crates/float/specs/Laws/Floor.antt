@@ -2,7 +2,7 @@
 -- for the whole number r nearest to √a. Rests on the kit's count of digits.
 use Rattle.std.specs.Prelude.{◌≡◌, ℕ, zero, suc, ◌+◌, ◌-◌, ◌*◌, ◌/◌, ◌^◌, ◌<◌, ◌≤◌, Bool, true, false, cond, not, T, nat_le}
 use Rattle.std.proofs.Common.{sym, ap, ◌∙◌, subst, le_trans, le_of_eq, lt_of_lt_of_le, lt_of_le_of_lt, lt_of_not-le, not-le_of_lt, mul-le-mul, mul-le-mul_right, mul-lt-mul_of_pos_right, lt_of_mul-lt-mul_right, le_of_mul-le-mul_right, mul-pos, mul_assoc, pow-suc, zero-lt-suc, div-lt_iff_lt-mul, div-mul-le_self, arith, leb→le, lit≤, pow-add, pow_pos, pow_mono}
-use Prim.Native.Nat.{zero_le, compare, Ordering}
+use Prim.Native.Nat.{zero-le, compare, Ordering}
 use Rattle.std.proofs.Math.Nat.{eq_of_mul-eq-mul_right, mul-mul-mul_comm, pow-le-pow_left, lt-div-mul-add}
 use Rattle.std.proofs.Math.Dec.{nleb→lt}
 use Rattle.std.specs.Float.{Format}
@@ -30,7 +30,7 @@ digit n s h = go (nat_le ((2 * s + 1) * (2 * s + 1)) n) (leb→le ((2 * s + 1) *
 
 pub floor_is : (d n : ℕ) → n < 4 ^ d → Floor n (floor_root d n)
 unfolding floor_root
-floor_is zero n h = (zero_le, h)
+floor_is zero n h = (zero-le, h)
 floor_is (suc d) n h = digit n (floor_root d (n / 4)) (floor_is d (n / 4) ((div-lt_iff_lt-mul (zero-lt-suc 3)).1 (lt_of_lt_of_le h (le_of_eq (pow-suc 4 d)))))
 
 pub whole_part : (n : ℕ) → Floor n (floor_root (size n) n)

@@ -1,10 +1,10 @@
 -- Two values that fit and are equal by `==` are the same, but for the sign of a zero.
 -- Rests on the kit's law that a value that fits is that of its pattern.
-use Rattle.std.specs.Prelude.{◌≡◌, ℕ, zero, suc, ◌*◌, ◌/◌, ◌^◌, Bool, true, false, ◌&&◌, T, ◌⊎◌, ℤ, ◌==◌, from_bits, to_bits, Float}
+use Rattle.std.specs.Prelude.{◌≡◌, ℕ, zero, suc, ◌*◌, ◌/◌, ◌^◌, Bool, true, false, ◌&&◌, T, ◌⊎◌, ℤ, ◌==◌, Float}
 use Rattle.std.proofs.Math.Path.{refl}
 use Rattle.std.proofs.Common.{sym, ap, ◌∙◌, inl, inr, mul_right_comm, mul-pos, zero-lt-suc, arith, eqb→eq}
 use Rattle.std.specs.Float.{nan, inf, fin, Format}
-use Rattle.std.specs.Float.Ieee.{low, up, down, fits, eq}
+use Rattle.std.specs.Float.Ieee.{low, up, down, fits, eq, of_bits, to_bits}
 use Rattle.std.specs.Float.Ieee.Bits.{of_bits-to_bits}
 use Rattle.std.specs.Float.Ieee.Fits.{up_pos, down_pos, and_l, and_r}
 use Rattle.std.specs.Float.Ieee.Nearest.{div_same}
@@ -16,7 +16,7 @@ Zero (inf s) = ⊥
 Zero (fin s m e) = m ≡ 0
 
 same_value : (f : Format) (s : Bool) (m : ℕ) (e : ℤ) (n : ℕ) (d : ℤ) → T (fits f (fin s m e)) → T (fits f (fin s n d)) → m * up e * down d ≡ n * up d * down e → fin s m e ≡ fin s n d
-same_value f s m e n d p q h = sym (of_bits-to_bits f (fin s m e) p) ∙ ap (from_bits f) (patterns s) ∙ of_bits-to_bits f (fin s n d) q
+same_value f s m e n d p q h = sym (of_bits-to_bits f (fin s m e) p) ∙ ap (of_bits f) (patterns s) ∙ of_bits-to_bits f (fin s n d) q
   where
     l : ℕ
     l = 2 ^ low f

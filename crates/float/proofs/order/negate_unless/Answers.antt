@@ -1,0 +1,35 @@
+-- `float::negate_unless` meets its contract: the pattern with its sign turned over is that of the opposite.
+-- Rests on `Laws/Nan.antt` and `Laws/Sign.antt`.
+use Rattle.std.proofs.Common.{◌≡◌, Bool, true, false, cond, T, refl}
+use lib.Ieee.{nan, binary64, fits, neg}
+use lib.Ieee.Bits.{of_bits-to_bits}
+use lib.Ieee.Compare.{differs_from_itself}
+use Rattle.laws.specs.Truth.{yes}
+use Rattle.float.specs.Laws.Nan.{is_number}
+use Rattle.float.specs.Laws.Sign.{turned_pattern, turned_fits, turned_no_nan}
+use Rattle.float.proofs.order.negate_unless.Goals as goal
+use Rattle.float.proofs.order.negate_unless.Goals.{Start}
+
+-- what owning an `f64` tells: the format holds it
+held : (c : Start) → T (fits binary64 c.args.x)
+held c = yes c.well_formed.0.1
+
+same : (b : Bool) → nan ≡ cond b nan (neg nan)
+unfolding neg
+same true = refl
+same false = refl
+
+pub float_to_bits-bits : goal.float_to_bits-bits
+float_to_bits-bits c = is_number _ c.if-x.false
+
+pub float_from_bits-result : goal.float_from_bits-result
+float_from_bits-result c =
+    rw (c.wrapping_add_u64.ensures.value, c.sign_bit.ensures) (turned_no_nan c.args.x c.args.keep (held c.before.before.before) (is_number _ c.if-x.false))
+
+pub returns-then-x : goal.returns-then-x
+returns-then-x c = rw (differs_from_itself c.args.x (yes c.if-x.true)) (same c.args.keep)
+
+pub returns-else-x : goal.returns-else-x
+returns-else-x c =
+    rw (c.wrapping_add_u64.ensures.value, c.sign_bit.ensures, turned_pattern c.args.x c.args.keep (held c.before.before.before) (is_number _ c.if-x.false))
+    (of_bits-to_bits binary64 _ (turned_fits c.args.x c.args.keep (held c.before.before.before)))
