@@ -1,0 +1,27 @@
+-- `quota_of` is the quota of one piece: all or nothing without weight, else its floor and one by its rank.
+-- Rests on what `whole_share`, `rank_of` and `first_only` ensure.
+use Rattle.std.proofs.Common.{sym, ◌∙◌, arith, rules, le-ltb, lt-ltb}
+use lib.Ieee.{nan}
+use Rattle.glyphs.specs.Quotas.{quota_of, floor_below, by_rank}
+use Rattle.glyphs.proofs.quotas.quota_of.Goals as goal
+
+pub returns-then-no_weight : goal.returns-then-no_weight
+unfolding quota_of
+returns-then-no_weight c = rw (← c.no_weight.ensures, c.if-no_weight.true) c.first_only.ensures
+
+pub overflow_add-result : goal.overflow_add-result
+overflow_add-result c =
+    let a = c.args in
+    omega (arith, floor_below a.n a.total a.weights.now a.i nan (search rules) (search rules), c.whole_share-whole.ensures)
+
+pub returns-then-rank_of-left : goal.returns-then-rank_of-left
+returns-then-rank_of-left c =
+    let a = c.args in
+    let none = sym c.no_weight.ensures ∙ c.if-no_weight.false in
+    rw (by_rank a.n a.total a.left a.weights.now a.i none (search rules), ← c.rank_of.ensures, lt-ltb _ _ c.if-rank_of-left.true, c.whole_share-whole.ensures)
+
+pub returns : goal.returns
+returns c =
+    let a = c.args in
+    let none = sym c.no_weight.ensures ∙ c.if-no_weight.false in
+    rw (by_rank a.n a.total a.left a.weights.now a.i none (search rules), ← c.rank_of.ensures, le-ltb _ _ c.if-rank_of-left.false, c.whole_share-whole.ensures) (omega arith)

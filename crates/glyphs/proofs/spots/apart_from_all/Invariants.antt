@@ -1,0 +1,20 @@
+-- `apart_from_all` meets its contract. The invariant of the loops: the answer is that of the marks from mark k on, and of `ok` in the second.
+-- Rests on the laws of `all` over a block, over one element and over none.
+use Rattle.std.proofs.Common.{◌≡◌, ◌-◌, ◌/◌, ◌≤◌, ◌&&◌, length, drop}
+use Rattle.laws.specs.Any.{all}
+use Rattle.glyphs.specs.Spots.{apart, spots_of}
+use Rattle.glyphs.proofs.spots.apart_from_all.Given as goal
+
+abbrev pub invariant-loop-k : goal.invariant-loop-k
+invariant-loop-k l =
+    (l.k ≤ l.n) × (l.n ≡ length l.spots / 2) × (all (apart l.x l.y l.least) (spots_of l.spots) ≡ all (apart l.x l.y l.least) (drop l.k (spots_of l.spots)))
+
+abbrev pub decreases-loop-k : goal.decreases-loop-k
+decreases-loop-k l = l.n - l.k
+
+abbrev pub invariant-loop-k-2 : goal.invariant-loop-k-2
+invariant-loop-k-2 l =
+    (l.k ≤ l.n) × (l.n ≡ length l.spots / 2) × (all (apart l.x l.y l.least) (spots_of l.spots) ≡ l.ok && all (apart l.x l.y l.least) (drop l.k (spots_of l.spots)))
+
+abbrev pub decreases-loop-k-2 : goal.decreases-loop-k-2
+decreases-loop-k-2 l = l.n - l.k
