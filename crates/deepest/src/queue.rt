@@ -7,7 +7,7 @@ ghost use Rattle.deepest.specs.Cells.{cell_at, put_cell, Tagged, Sound};
 ghost use Rattle.deepest.specs.Heap.{First};
 ghost use Rattle.deepest.specs.Queue.{Queue, Pushed, Popped};
 
-#[derive(Drop)]
+#[derive(Clone, Copy)]
 pub struct Cell {
     pub x: f64,
     pub y: f64,

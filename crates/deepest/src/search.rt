@@ -15,7 +15,7 @@ use regions::four::four_clearances;
 use regions::ring::ring_at;
 
 // A deepest point with its clearance, or none; or more cells waited than there is room for.
-#[derive(Drop)]
+#[derive(Clone, Copy)]
 pub enum Deepest {
     Found(f64, f64, f64),
     Nothing,
@@ -23,7 +23,7 @@ pub enum Deepest {
 }
 
 // The deepest place so far.
-#[derive(Drop)]
+#[derive(Clone, Copy)]
 pub struct Best {
     pub x: f64,
     pub y: f64,

@@ -37,7 +37,7 @@ fn enter_cell(
 }
 
 // A corner of a first cell, and whether there is one.
-#[derive(Drop)]
+#[derive(Clone, Copy)]
 pub struct Corner {
     pub x: f64,
     pub y: f64,
@@ -65,7 +65,7 @@ fn next_corner(corner: Corner, e: Extents, side: f64) -> Corner
 }
 
 // How many first cells wait, or that there are too many.
-#[derive(Drop)]
+#[derive(Clone, Copy)]
 pub enum Seeded {
     Waiting(usize),
     Crowded,

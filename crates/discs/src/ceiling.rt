@@ -13,7 +13,7 @@ use glyphs::rect::is_finite;
 use regions::area::piece_area;
 
 // A radius, or none.
-#[derive(Drop)]
+#[derive(Clone, Copy)]
 pub enum Chosen {
     None,
     Some(f64),

@@ -2,20 +2,20 @@
 use glyphs::options::{GlyphArrangement, ObstaclePolicy};
 
 // The radius: chosen by the packer, or stated.
-#[derive(Drop)]
+#[derive(Clone, Copy)]
 pub enum Radius {
     Auto,
     Stated(f64),
 }
 
 // The gap to walls and pillars: the one between marks, or its own.
-#[derive(Drop)]
+#[derive(Clone, Copy)]
 pub enum BoundaryGap {
     Follows,
     Own(f64),
 }
 
-#[derive(Drop)]
+#[derive(Clone, Copy)]
 pub struct GlyphOptions {
     pub arrangement: GlyphArrangement,
     pub radius: Radius,

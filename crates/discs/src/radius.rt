@@ -13,14 +13,14 @@ use glyphs::rect::is_finite;
 use relax::Spreading;
 
 // The radius found, and how many trials were made.
-#[derive(Drop)]
+#[derive(Clone, Copy)]
 pub struct Search {
     pub best: Chosen,
     pub trials: usize,
 }
 
 // The radius to pack at, and the trials made for it, free of obstacles and with them.
-#[derive(Drop)]
+#[derive(Clone, Copy)]
 pub struct Size {
     pub radius: f64,
     pub free_trials: usize,
@@ -28,14 +28,14 @@ pub struct Size {
 }
 
 // A size, or none: every count stays unplaced.
-#[derive(Drop)]
+#[derive(Clone, Copy)]
 pub enum Sizing {
     Unplaced,
     At(Size),
 }
 
 // What is left of the search: a radius that fits, one that does not, and the best one.
-#[derive(Drop)]
+#[derive(Clone, Copy)]
 pub struct Bracket {
     pub lo: f64,
     pub hi: f64,

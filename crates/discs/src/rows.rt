@@ -7,7 +7,7 @@ ghost use Rattle.discs.specs.Floor.{row_of, row_is_left_in, cut, past_row};
 use crate::region::coords_in;
 
 // A zone's four numbers: where its key starts, how long that is, its mark count, its piece count.
-#[derive(Drop)]
+#[derive(Clone, Copy)]
 pub struct Row {
     pub key: usize,
     pub len: usize,
@@ -37,7 +37,7 @@ pub fn is_left_in(row: Row) -> bool
 }
 
 // Where a zone's pieces, their rings and coordinates start.
-#[derive(Drop)]
+#[derive(Clone, Copy)]
 pub struct Offsets {
     pub piece: usize,
     pub ring: usize,

@@ -189,7 +189,7 @@ pub fn hypot(a: f64, b: f64) -> f64
 }
 
 // A root of each of two floats.
-#[derive(Drop)]
+#[derive(Clone, Copy)]
 pub struct Two {
     pub a: f64,
     pub b: f64,
@@ -215,7 +215,7 @@ pub fn two_roots(x: f64, y: f64) -> Two
 }
 
 // A root of each of four floats.
-#[derive(Drop)]
+#[derive(Clone, Copy)]
 pub struct FourRoots {
     pub a: f64,
     pub b: f64,

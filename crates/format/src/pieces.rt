@@ -6,7 +6,7 @@ ghost use Rattle.format.specs.Steps.{Room, RingRead, RingsRead, PieceRead, Piece
 use crate::numbers::{coords, item, uint};
 
 // How far a reading has come: the next byte, and the next free place of each slice.
-#[derive(Drop)]
+#[derive(Clone, Copy)]
 pub struct Cursor {
     pub at: usize,
     pub coords: usize,
@@ -15,7 +15,7 @@ pub struct Cursor {
 }
 
 // What a reading found: the fault, and where there is none, how far it came.
-#[derive(Drop)]
+#[derive(Clone, Copy)]
 pub struct Step {
     pub fault: u8,
     pub to: Cursor,

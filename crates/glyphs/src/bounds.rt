@@ -5,7 +5,7 @@ ghost use Rattle.glyphs.specs.Bounds.{extents_of, ring_bounds};
 use crate::points::{vx, vy};
 
 // The least and the greatest x, then y, of a ring.
-#[derive(Drop)]
+#[derive(Clone, Copy)]
 pub struct Extents {
     pub min_x: f64,
     pub max_x: f64,
@@ -40,7 +40,7 @@ pub fn ring_extents(ring: &[f64]) -> Extents
 }
 
 // The extents of a ring whose width and height are above 0.
-#[derive(Drop)]
+#[derive(Clone, Copy)]
 pub enum Bounds {
     Box(f64, f64, f64, f64),
     Nothing,

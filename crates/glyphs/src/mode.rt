@@ -1,7 +1,7 @@
 // glyphs.rs, `PackMode`.
 
 // How a pack treats spacing and obstacles.
-#[derive(Drop)]
+#[derive(Clone, Copy)]
 pub struct PackMode {
     // Spread the marks across the piece once they all fit.
     pub spread: bool,

@@ -1,6 +1,6 @@
 // glyphs.rs, `GlyphArrangement` and `ObstaclePolicy`.
 
-#[derive(Drop)]
+#[derive(Clone, Copy)]
 pub enum GlyphArrangement {
     Uniform,
     Rectangular,
@@ -8,7 +8,7 @@ pub enum GlyphArrangement {
     Random,
 }
 
-#[derive(Drop)]
+#[derive(Clone, Copy)]
 pub enum ObstaclePolicy {
     BestEffort,
     Strict,

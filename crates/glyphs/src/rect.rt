@@ -3,13 +3,13 @@
 ghost use Rattle.std.specs.Prelude.{◌≡◌, ◌/◌, ◌<◌, length};
 ghost use Rattle.glyphs.specs.Rect.{rect_at, rectangles, is_finite, dist_to_rect, clear_of_obstacles, sane, near};
 
-#[derive(Drop)]
+#[derive(Clone, Copy)]
 pub struct Point {
     pub x: f64,
     pub y: f64,
 }
 
-#[derive(Drop)]
+#[derive(Clone, Copy)]
 pub struct Rectangle {
     pub center: Point,
     pub width: f64,

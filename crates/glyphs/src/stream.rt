@@ -4,20 +4,20 @@ ghost use Rattle.glyphs.specs.Stream.{seeded, draw, random_range};
 
 use float::wrapping_mul;
 
-#[derive(Drop)]
+#[derive(Clone, Copy)]
 pub struct Stream {
     pub state: u64,
 }
 
 // A draw of 64 bits, and the stream after it.
-#[derive(Drop)]
+#[derive(Clone, Copy)]
 pub struct Draw {
     pub bits: u64,
     pub next: Stream,
 }
 
 // A draw from a range, and the stream after it.
-#[derive(Drop)]
+#[derive(Clone, Copy)]
 pub struct Sample {
     pub value: f64,
     pub next: Stream,

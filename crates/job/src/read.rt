@@ -10,7 +10,7 @@ use format::numbers::{item, uint};
 use format::pieces::Cursor;
 
 // What the reader makes of a job: the number of its refusal, or its options and how many obstacles and zones it has.
-#[derive(Drop)]
+#[derive(Clone, Copy)]
 pub enum Reading {
     Refused(u8),
     Read {

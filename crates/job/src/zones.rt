@@ -11,7 +11,7 @@ use format::numbers::{item, uint};
 use format::pieces::{Cursor, Step, pieces};
 
 // What came before a zone: how many zones, where the last key starts, how long that is, the marks so far.
-#[derive(Drop)]
+#[derive(Clone, Copy)]
 pub struct Before {
     pub zones: usize,
     pub key: usize,
@@ -20,7 +20,7 @@ pub struct Before {
 }
 
 // What the reading of a zone found: the fault, and where there is none, how far it came.
-#[derive(Drop)]
+#[derive(Clone, Copy)]
 pub struct ZoneStep {
     pub fault: u8,
     pub to: Cursor,

@@ -10,7 +10,7 @@ use regions::margin::Margin;
 use regions::pillars::{beyond, clears_obstacles};
 
 // The height of a row and how many obstacles are held for it. Where they do not fit, all are asked.
-#[derive(Drop)]
+#[derive(Clone, Copy)]
 pub struct Beside {
     pub y: f64,
     pub count: usize,

@@ -5,7 +5,7 @@ ghost use Rattle.lattice.specs.Context.{inset, spacing};
 use glyphs::mode::PackMode;
 
 // What a packer packs at: the radius, the gaps as parts of it, and the mode.
-#[derive(Drop)]
+#[derive(Clone, Copy)]
 pub struct PackCtx {
     pub r: f64,
     pub gap: f64,
@@ -30,7 +30,7 @@ impl PackCtx {
 }
 
 // The lattice's spacing, and whether its rows are aligned.
-#[derive(Drop)]
+#[derive(Clone, Copy)]
 pub struct Lattice {
     pub spacing: f64,
     pub rectangular: bool,

@@ -15,7 +15,7 @@ use crate::span::{ceil_rank, floor_rank, many};
 use glyphs::rect::is_finite;
 use regions::margin::Margin;
 
-#[derive(Drop)]
+#[derive(Clone, Copy)]
 pub struct Counts {
     pub free: usize,
     pub blocked: usize,

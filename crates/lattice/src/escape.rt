@@ -12,7 +12,7 @@ use glyphs::rect::{Point, Rectangle, clear_of_obstacles, obstacle};
 use regions::clearance::signed_clearance;
 
 // The exit found so far: its squared distance and its place.
-#[derive(Drop)]
+#[derive(Clone, Copy)]
 pub enum Best {
     Nothing,
     Found(f64, Point),

@@ -22,7 +22,7 @@ use glyphs::rect::{Point, is_finite};
 use regions::margin::Margin;
 
 // The numbers of the cells that are gathered.
-#[derive(Drop)]
+#[derive(Clone, Copy)]
 pub struct Gathered {
     pub free: Free,
     pub blocked: usize,

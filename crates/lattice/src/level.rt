@@ -12,7 +12,7 @@ use regions::margin::{Margin, clears};
 
 // A height, how many edges are near it, and whether they and the crossings fit where they are kept. Where not, the
 // plain test is asked.
-#[derive(Drop)]
+#[derive(Clone, Copy)]
 pub struct Level {
     pub y: f64,
     pub edges: usize,

@@ -9,7 +9,7 @@ use crate::span::{ceil_rank, floor_rank, number};
 use glyphs::rect::Point;
 
 // A lattice anchored at a point, and the box that its cells are to reach over.
-#[derive(Drop)]
+#[derive(Clone, Copy)]
 pub struct Field {
     pub anchor: Point,
     pub lattice: Lattice,
@@ -20,7 +20,7 @@ pub struct Field {
 }
 
 // A row: the place of its cell 0, and the ranks of its first and last cell.
-#[derive(Drop)]
+#[derive(Clone, Copy)]
 pub struct Row {
     pub x: f64,
     pub y: f64,

@@ -9,7 +9,7 @@ use crate::nearest::{keep, merge_run};
 use glyphs::rect::Point;
 
 // How many free cells are kept, and how many more wait.
-#[derive(Drop)]
+#[derive(Clone, Copy)]
 pub struct Free {
     pub kept: usize,
     pub waiting: usize,

@@ -5,7 +5,7 @@ ghost use Rattle.marks.specs.Call.{Kept, planned};
 
 // The sheet stands in front of its buffer, and how many trials the radius took, free of obstacles and with them; or the
 // number of the refusal.
-#[derive(Drop)]
+#[derive(Clone, Copy)]
 pub enum Planned {
     Sheet {
         length: usize,

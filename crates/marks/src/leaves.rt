@@ -5,7 +5,7 @@ ghost use Rattle.glyphs.specs.Hash.{fnv1a};
 ghost use Rattle.marks.specs.Leaves.{inverse_answer, any_below, quotas_answer, quotas_after};
 
 // The radical inverse, or that the base is outside 2..65,536.
-#[derive(Drop)]
+#[derive(Clone, Copy)]
 pub enum Inverse {
     Value(f64),
     BadBase,
@@ -13,7 +13,7 @@ pub enum Inverse {
 
 // Whether the quotas are written, or why not: a count over 2,000, over 16 weights or a weight below 0; or too
 // few places for them.
-#[derive(Drop)]
+#[derive(Clone, Copy)]
 pub enum Sharing {
     Written,
     BadShares,

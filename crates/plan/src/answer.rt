@@ -3,7 +3,7 @@ ghost use Rattle.std.specs.Prelude.{◌≡◌};
 ghost use Rattle.plan.specs.Sized.{refused_by};
 
 // The sheet's length, the number of the refusal, and the trials made for the radius, free of obstacles and with them.
-#[derive(Drop)]
+#[derive(Clone, Copy)]
 pub struct Answer {
     pub length: usize,
     pub number: u8,

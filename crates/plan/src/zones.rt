@@ -24,7 +24,7 @@ use relax::Spreading;
 use sheet::{put_spots, put_zone};
 
 // How far the sheet is written: where the next zone goes, and how many there are.
-#[derive(Drop)]
+#[derive(Clone, Copy)]
 pub struct Done {
     pub at: usize,
     pub zones: usize,

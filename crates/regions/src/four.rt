@@ -15,7 +15,7 @@ use crate::ring::{after, before, ring_at};
 use glyphs::points::{vx, vy};
 
 // A number of each of four places.
-#[derive(Drop)]
+#[derive(Clone, Copy)]
 pub struct Four {
     pub a: f64,
     pub b: f64,
@@ -24,7 +24,7 @@ pub struct Four {
 }
 
 // A flag of each of four places.
-#[derive(Drop)]
+#[derive(Clone, Copy)]
 pub struct Flags {
     pub a: bool,
     pub b: bool,

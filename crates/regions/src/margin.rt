@@ -11,7 +11,7 @@ use crate::ring::ring_at;
 
 // A clearance to keep. A square below `low` has a root below `least`, one from `high` on has a root of at least
 // `least`; where that could not be made sure of, the square is one with which the comparison fails.
-#[derive(Drop)]
+#[derive(Clone, Copy)]
 pub struct Margin {
     pub least: f64,
     pub low: f64,

@@ -18,7 +18,7 @@ use regions::unrooted::{rooted, rooted_below, unrooted_clearance};
 
 // The distances that marks keep, and the margins and the reaches made of them. The piece and its obstacles are
 // handed beside it.
-#[derive(Drop)]
+#[derive(Clone, Copy)]
 pub struct Field {
     pub spacing: f64,
     pub inset: f64,
@@ -31,14 +31,14 @@ pub struct Field {
 }
 
 // The direction in which the clearance rises most, or that it is flat.
-#[derive(Drop)]
+#[derive(Clone, Copy)]
 pub enum Gradient {
     Toward(f64, f64),
     Flat,
 }
 
 // The clearance of a place that a mark may move to, its root not taken, or that it may not.
-#[derive(Drop)]
+#[derive(Clone, Copy)]
 pub enum Acceptance {
     Clear(f64),
     Refused,

@@ -8,7 +8,7 @@ pub mod sweeps;
 
 // The numbers of relax.rs: sweeps; the reach of a neighbour's push, in spacings; the reach of the boundary's push,
 // in insets, and its weight; the greatest step, in spacings; how often a refused step is halved.
-#[derive(Drop)]
+#[derive(Clone, Copy)]
 pub struct Spreading {
     pub sweeps: u32,
     pub influence: f64,

@@ -14,7 +14,7 @@ use glyphs::rect::{Point, is_finite};
 use glyphs::spots::{put_spot, spot};
 
 // What becomes of a mark: a new place and its clearance, the root not taken, or nothing.
-#[derive(Drop)]
+#[derive(Clone, Copy)]
 pub enum Move {
     To(f64, f64, f64),
     Stay,

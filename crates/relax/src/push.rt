@@ -10,7 +10,7 @@ use glyphs::rect::Point;
 use glyphs::spots::{apart, apart_from_eight, put_spot, spot, spots_after, spots_before};
 
 // A push on a mark.
-#[derive(Drop)]
+#[derive(Clone, Copy)]
 pub struct Force {
     pub x: f64,
     pub y: f64,

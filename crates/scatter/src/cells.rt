@@ -14,7 +14,7 @@ use lattice::nearest::squared_distance;
 use lattice::span::floor_rank;
 
 // Where the first cell begins, the cells' size, and the square of the spacing.
-#[derive(Drop)]
+#[derive(Clone, Copy)]
 pub struct Cells {
     pub min_x: f64,
     pub min_y: f64,

@@ -22,7 +22,7 @@ use regions::margin::{Margin, clears};
 use regions::pillars::clears_obstacles;
 
 // The place that a lone mark tries first.
-#[derive(Drop)]
+#[derive(Clone, Copy)]
 pub enum Anchor {
     Nowhere,
     At(Point),

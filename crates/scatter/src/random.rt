@@ -26,7 +26,7 @@ use relax::Spreading;
 use relax::sweeps::relax_scatter;
 
 // How many marks are placed, and the stream after them.
-#[derive(Drop)]
+#[derive(Clone, Copy)]
 pub struct Taken {
     pub count: usize,
     pub rng: Stream,
@@ -60,7 +60,7 @@ fn lands(
 }
 
 // Where a dart is thrown, and the stream after it.
-#[derive(Drop)]
+#[derive(Clone, Copy)]
 pub struct Aimed {
     pub x: f64,
     pub y: f64,

@@ -1,0 +1,22 @@
+-- `point_in_polygon` meets its contract. The invariant: the flag is that of the definition after `i` turns.
+-- Rests on the law of the first turn and the contracts of what it calls.
+use Prim.Native.Nat.{◌/◌}
+use lib.ListN.{length}
+use borrow.Author.Rules.{rules}
+use borrow.Author.Tests.{lt-ltb, le-ltb}
+use Rattle.regions.specs.Inside.{point_in_polygon}
+use Rattle.regions.specs.Sides.{first_turn}
+use Rattle.regions.proofs.inside.point_in_polygon.Goals as goal
+
+pub returns-then-n-lt3 : goal.returns-then-n-lt3
+unfolding point_in_polygon
+returns-then-n-lt3 c = rw (lt-ltb _ _ c.if-n-lt3.true)
+
+pub loop-i-init : goal.loop-i-init
+loop-i-init c =
+    let a = c.args in
+    (search rules, search rules, search rules, cc (first_turn a.x a.y a.v.now (length a.v.now / 2)))
+
+pub returns : goal.returns
+unfolding point_in_polygon
+returns c = rw (le-ltb _ _ c.if-n-lt3.false) (cc c.turned_from.ensures)
