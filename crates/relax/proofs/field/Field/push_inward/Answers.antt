@@ -1,0 +1,12 @@
+-- `push_inward` meets its contract, by the gradient's two cases.
+-- Rests on nothing but the definition.
+use Rattle.relax.specs.Field.{push_inward}
+use Rattle.relax.proofs.field.Field.push_inward.Goals as goal
+
+pub returns-in_default : goal.returns-in_default
+unfolding push_inward
+returns-in_default c = rw c.enum_told-1.given.1
+
+pub returns : goal.returns
+unfolding push_inward
+returns c = rw c.gradient-1.given.1
