@@ -40,19 +40,18 @@ module _ (x y least : Float) where
   clear_past i j (q ∷ qs) h = rw (ne_eqb j i (λ e. omega arith), clear_past i (j + 1) qs (omega arith))
 
   clear_from :
-      (m j : ℕ) (qs : List Point) → m < length qs
-      → clear_of_others x y least (j + m) j qs ≡ all (apart x y least) (take m qs) && all (apart x y least) (drop (suc m) qs)
+      (m i j : ℕ) (qs : List Point) → i ≡ j + m → m < length qs
+      → clear_of_others x y least i j qs ≡ all (apart x y least) (take m qs) && all (apart x y least) (drop (suc m) qs)
   unfolding clear_of_others all
-  clear_from m j [] h = absurd (omega arith)
-  clear_from zero j (q ∷ qs) h = rw (eq-eqb j (j + 0) (omega arith), clear_past (j + 0) (j + 1) qs (omega arith))
-  clear_from (suc m) j (q ∷ qs) h =
-      let e : j + suc m ≡ j + 1 + m = omega arith in
-      rw (ne_eqb j (j + suc m) (λ e. omega arith), e, clear_from m (j + 1) qs (omega arith)) (sym (and_assoc (apart x y least q) _ _))
+  clear_from m i j [] e h = absurd (omega arith)
+  clear_from zero i j (q ∷ qs) e h = rw (eq-eqb j i (omega arith), clear_past i (j + 1) qs (omega arith))
+  clear_from (suc m) i j (q ∷ qs) e h =
+      rw (ne_eqb j i (λ d. omega arith), clear_from m i (j + 1) qs (omega arith) (omega arith)) (sym (and_assoc (apart x y least q) _ _))
 
 pub clear_others :
     (x y least : Float) (i : ℕ) (points : List Point) → i < length points
     → clear_of_others x y least i 0 points ≡ all (apart x y least) (take i points) && all (apart x y least) (drop (i + 1) points)
-clear_others x y least i points h = ap (λ (k : ℕ). clear_of_others x y least k 0 points) (sym (zero-add i)) ∙ clear_from x y least i 0 points h ∙ rw add-one
+clear_others x y least i points h = clear_from x y least i i 0 points (omega arith) h ∙ rw add-one
 
 -- a sum is one of its parts where the others are 0
 own_alone : (before own after : ℕ) → eqb before 0 && eqb after 0 ≡ eqb (before + (own + after)) own
@@ -110,20 +109,18 @@ module _ (influence : Float) (p : Point) where
   push_past i j (q ∷ qs) f h = rw (ne_eqb j i (λ e. omega arith)) (push_past i (j + 1) qs _ (omega arith))
 
   push_from :
-      (m j : ℕ) (qs : List Point) (f : Force) → m < length qs
-      → pushes influence (j + m) p j qs f ≡ foldl (push_of influence p) (foldl (push_of influence p) f (take m qs)) (drop (suc m) qs)
+      (m i j : ℕ) (qs : List Point) (f : Force) → i ≡ j + m → m < length qs
+      → pushes influence i p j qs f ≡ foldl (push_of influence p) (foldl (push_of influence p) f (take m qs)) (drop (suc m) qs)
   unfolding pushes
-  push_from m j [] f h = absurd (omega arith)
-  push_from zero j (q ∷ qs) f h = rw (eq-eqb j (j + 0) (omega arith)) (push_past (j + 0) (j + 1) qs f (omega arith))
-  push_from (suc m) j (q ∷ qs) f h =
-      let e : j + suc m ≡ j + 1 + m = omega arith in
-      rw (ne_eqb j (j + suc m) (λ e. omega arith), e) (push_from m (j + 1) qs (push_of influence p f q) (omega arith))
+  push_from m i j [] f e h = absurd (omega arith)
+  push_from zero i j (q ∷ qs) f e h = rw (eq-eqb j i (omega arith)) (push_past i (j + 1) qs f (omega arith))
+  push_from (suc m) i j (q ∷ qs) f e h = rw (ne_eqb j i (λ d. omega arith)) (push_from m i (j + 1) qs (push_of influence p f q) (omega arith) (omega arith))
 
   pub push_others :
       (i : ℕ) (points : List Point) (f : Force) → i < length points
       → pushes influence i p 0 points f
       ≡ foldl (push_of influence p) (foldl (push_of influence p) f (take i points)) (drop (i + 1) points)
-  push_others i points f h = ap (λ (k : ℕ). pushes influence k p 0 points f) (sym (zero-add i)) ∙ push_from i 0 points f h ∙ rw add-one
+  push_others i points f h = push_from i i 0 points f (omega arith) h ∙ rw add-one
 
   pub reached :
       (f : Force) (q : Point) (d : Float) → reaches influence (square_between p q) ≡ true → d ≡ sqrt (square_between p q)

@@ -24,8 +24,8 @@ returns-in-Clear c =
     rw (
       l.invariant,
       first_clear a.field piece obstacles a.i a.spots.now a.honoring a.towards (omega arith) q.result q.ensures l.left l.step
-          (rooted c.answer-1.given.0.0)
-          (sym c.accepts-answer.ensures ∙ ap told c.answer-1.given.1),
+          (rooted c.in-Clear.c)
+          (sym c.accepts-answer.ensures ∙ ap told c.in-Clear.is),
     )
 
 pub returns-then-left-eq0 : goal.returns-then-left-eq0
@@ -39,7 +39,7 @@ returns-then-left-eq0 c =
     rw (
       l.invariant,
       first_refused a.field piece obstacles a.i a.spots.now a.honoring a.towards (omega arith) q.result q.ensures l.left l.step
-          (sym c.accepts-answer.ensures ∙ ap told c.enum_told-1.given.1),
+          (sym c.accepts-answer.ensures ∙ ap told c.in_default.is),
       c.if-left-eq0.true,
       none_accepted,
     )
@@ -57,5 +57,5 @@ loop-c-preserved c =
       k,
       l.invariant,
       first_refused a.field piece obstacles a.i a.spots.now a.honoring a.towards (omega arith) q.result q.ensures l.left l.step
-          (sym c.accepts-answer.ensures ∙ ap told c.enum_told-1.given.1),
+          (sym c.accepts-answer.ensures ∙ ap told c.in_default.is),
     )

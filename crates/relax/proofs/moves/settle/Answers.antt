@@ -8,10 +8,10 @@ use Rattle.relax.proofs.moves.settle.Goals as goal
 
 pub returns-in_default : goal.returns-in_default
 unfolding settled told_of
-returns-in_default c = rw c.enum_told-1.given.1
+returns-in_default c = rw c.in_default.is
 
 pub returns : goal.returns
 unfolding settled told_of
 returns c =
     let a = c.args in
-    rw (c.m-1.given.1, c.put_spot.ensures, spots_put a.spots.now a.i _ (omega arith), map_set)
+    rw (c.in-To.is, c.put_spot.ensures, spots_put a.spots.now a.i _ (omega arith), map_set)

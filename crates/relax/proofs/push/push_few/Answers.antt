@@ -36,7 +36,7 @@ slice_bounds-near-end c =
     let e : length c.spots_after.result.now / 2 ≡ length a.spots.now / 2 - (a.i + 1) =
     sym (length_spots c.spots_after.result.now) ∙ ap length c.spots_after.ensures ∙ simp (length-drop, length_spots) in
     omega (arith, e) in
-    let room : c.gather-all.result * 2 ≤ length c.gather-all.new.1.1.1.0 = omega (arith, before, after, c.gather-before.ensures.0, c.gather-before.ensures.1, c.gather-all.ensures.0, c.gather-all.ensures.1) in
+    let room : c.gather-all.result * 2 ≤ length c.gather-all.new.near = omega (arith, before, after, c.gather-before.ensures.0, c.gather-before.ensures.1, c.gather-all.ensures.0, c.gather-all.ensures.1) in
     room
 
 pub slice_bounds-push_near-end : goal.slice_bounds-push_near-end
@@ -47,7 +47,7 @@ slice_bounds-push_near-end c =
     let e : length c.spots_after.result.now / 2 ≡ length a.spots.now / 2 - (a.i + 1) =
     sym (length_spots c.spots_after.result.now) ∙ ap length c.spots_after.ensures ∙ simp (length-drop, length_spots) in
     omega (arith, e) in
-    let room : c.gather-all.result * 2 ≤ length c.gather-all.new.1.1.1.0 = omega (arith, before, after, c.gather-before.ensures.0, c.gather-before.ensures.1, c.gather-all.ensures.0, c.gather-all.ensures.1) in
+    let room : c.gather-all.result * 2 ≤ length c.gather-all.new.near = omega (arith, before, after, c.gather-before.ensures.0, c.gather-before.ensures.1, c.gather-all.ensures.0, c.gather-all.ensures.1) in
     sym (length-take-le _ _ room)
 
 pub returns : goal.returns
@@ -55,7 +55,7 @@ returns c =
     let a = c.args in
     let g : Force → Point → Force = push_of a.influence a.p in
     c.push_near.ensures
-    ∙ ap (foldl g no_force) (spots_take c.gather-all.result c.gather-all.new.1.1.1.0)
+    ∙ ap (foldl g no_force) (spots_take c.gather-all.result c.gather-all.new.near)
     ∙ c.gather-all.ensures.2 no_force
     ∙ ap (λ (x : Force). foldl g x (spots_of c.spots_after.result.now)) (c.gather-before.ensures.2 no_force ∙ ap (foldl g no_force) c.spots_before.ensures)
     ∙ ap (foldl g (foldl g no_force (take a.i (spots_of a.spots.now)))) c.spots_after.ensures

@@ -19,35 +19,32 @@ returns-then-idle c =
     let a = c.args in
     let points = spots_of a.spots.now in
     let piece = piece_of a.sizes.now a.coords.now in
-    let n : length c.note_honoring.new.1.0 ≡ length points = simp length_spots (omega arith) in
+    let n : length c.note_honoring.new.honoring ≡ length points = simp length_spots (omega arith) in
     let h : idle (length points) a.spacing ≡ true = rw (← n, ← c.idle.ensures) c.if-idle.true in
     let e = idle_end a.numbers points piece (rectangles a.obstacles.now) a.spacing a.inset a.spots.now (length a.unrooted.now) refl (omega arith) h in
     record { fact_1 = e.0; fact_2 = rw (c.note_unrooted.ensures, noted_roots) e.1; fact_3 = c.note_honoring.ensures }
 
 pub relax_sweeps-requires : goal.relax_sweeps-requires
 relax_sweeps-requires c =
-    let h = c.note_honoring in
-    let u = c.note_unrooted in
-    (omega (arith, c.requires, h.auto, u.auto), omega (arith, c.requires, h.auto, u.auto), c.requires.2, c.requires.3, field_sound _ _ _ _ c.of.ensures)
+    (omega (arith, c.requires, c.note_honoring.auto, c.note_unrooted.auto), omega (arith, c.requires, c.note_honoring.auto, c.note_unrooted.auto), c.requires.2, c.requires.3, field_sound _ _ _ _ c.of.ensures)
 
 pub returns : goal.returns
 returns c =
     let a = c.args in
     let points = spots_of a.spots.now in
     let piece = piece_of a.sizes.now a.coords.now in
-    let r = c.relax_sweeps in
-    let spots = r.new.1.1.0 in
-    let unrooted = r.new.1.1.1.0 in
-    let n : length c.note_honoring.new.1.0 ≡ length points =
-    simp length_spots (omega (arith, c.note_honoring.auto.1.0, c.requires.0, c.requires.1)) in
+    let spots = c.relax_sweeps.new.spots in
+    let unrooted = c.relax_sweeps.new.unrooted in
+    let n : length c.note_honoring.new.honoring ≡ length points =
+    simp length_spots (omega (arith, c.note_honoring.auto.honoring, c.requires.0, c.requires.1)) in
     let h : idle (length points) a.spacing ≡ false = rw (← n, ← c.idle.ensures) c.if-idle.false in
     let s :
     scatter_of spots unrooted
     ≡ relax_sweeps a.numbers (around a.numbers points piece (rectangles a.obstacles.now) a.spacing a.inset)
     (record { points = points; clearance = clearances_of piece points }) =
-    r.ensures ∙ rw (c.of.ensures, c.note_honoring.ensures, flags_back, c.note_unrooted.ensures, noted_roots) in
+    c.relax_sweeps.ensures ∙ rw (c.of.ensures, c.note_honoring.ensures, flags_back, c.note_unrooted.ensures, noted_roots) in
     let e = busy_end a.numbers points piece (rectangles a.obstacles.now) a.spacing a.inset spots unrooted (length a.unrooted.now)
-    (omega (arith, c.requires.0, r.auto.1.1.0))
+    (omega (arith, c.requires.0, c.relax_sweeps.auto.spots))
     h
     s in
     record { fact_1 = e.0; fact_2 = e.1; fact_3 = c.note_honoring.ensures }

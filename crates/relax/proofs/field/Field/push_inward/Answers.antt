@@ -5,8 +5,8 @@ use Rattle.relax.proofs.field.Field.push_inward.Goals as goal
 
 pub returns-in_default : goal.returns-in_default
 unfolding push_inward
-returns-in_default c = rw c.enum_told-1.given.1
+returns-in_default c = rw c.in_default.is
 
 pub returns : goal.returns
 unfolding push_inward
-returns c = rw c.gradient-1.given.1
+returns c = rw c.in-Toward.is
