@@ -3,7 +3,7 @@
 use Rattle.std.specs.Prelude.{◌≡◌, refl, List, [], ◌∷◌, ℕ, ◌≤◌, length, Float}
 use Rattle.std.proofs.Common.{◌∙◌, le-leb}
 use Rattle.std.specs.Float.Ieee
-use Rattle.format.specs.Rows.{◌unless◌, ◌orElse◌}
+use Rattle.format.specs.Rows.{◌unless◌, ◌or_else◌}
 use Rattle.laws.specs.Any.{all}
 use Rattle.float.specs.Ops.{1ᶠ, 2ᶠ}
 use Rattle.glyphs.specs.declared.options.ObstaclePolicy.TheVariants.{Strict}
@@ -31,11 +31,11 @@ unfolding ceiling_fault ceiling_of low_fault
 not_low = refl
 
 lent_enough : (m n : ℕ) → 8000 ≤ m → 8000 ≤ n → work_fault m n ≡ 0
-unfolding work_fault ◌unless◌ ◌orElse◌
+unfolding work_fault ◌unless◌ ◌or_else◌
 lent_enough m n h g = rw (le-leb 8000 m h, le-leb 8000 n g)
 
 numbered : (first second : List Float) (sheet : List ℕ) → 8000 ≤ length first → 8000 ≤ length second → 53 ≤ length sheet → number_of job first second sheet ≡ 0
-unfolding number_of ◌orElse◌
+unfolding number_of ◌or_else◌
 numbered first second sheet f g h = rw (lent, lent_enough (length first) (length second) f g, read, says, fits (length sheet) h, roomy, not_low)
 
 accepted : (first second : List Float) (sheet : List ℕ) → 8000 ≤ length first → 8000 ≤ length second → 53 ≤ length sheet → (plan_of job first second sheet).number ≡ 0

@@ -37,7 +37,7 @@ use Rattle.discs.specs.declared.options.BoundaryGap.TheVariants.{Follows}
 use Rattle.discs.specs.Region.{Zone, quotas, deepest_of, pack_low_discrepancy_piece, pack_piece, pack_pieces, pack_region}
 use Rattle.discs.specs.Radius.{context_at}
 use Rattle.discs.specs.PlaceGlyphs.{is_left_in, work_of, pack, pack_at, size_for, sizing, place_glyphs}
-use Rattle.format.specs.Rows.{◌unless◌, ◌orElse◌, faults, past, each}
+use Rattle.format.specs.Rows.{◌unless◌, ◌or_else◌, faults, past, each}
 use Rattle.format.specs.Numbers.{uint, item, in_range, coord_in, coord_at, coord_of, share as part}
 use Rattle.format.specs.Pieces.{ring, ring_fault, ring_end, piece, piece_fault, piece_end}
 use Rattle.job.specs.Head.{lent_fault, number_after, choices_fault, measures_fault, head_fault, arrangement_of, policy_of, radius_of, boundary_of, options_of, obstacles, obstacles_fault, obstacles_end}
@@ -70,11 +70,11 @@ job =
     ∷ []
 
 pub lent : lent_fault job ≡ 0
-unfolding job lent_fault ◌unless◌ ◌orElse◌ uint
+unfolding job lent_fault ◌unless◌ ◌or_else◌ uint
 lent = refl
 
 pub read : items_fault job ≡ 0
-unfolding job items_fault head_fault choices_fault measures_fault number_after obstacles_fault obstacles_end zones_fault zones_end zone_fault zone_next opening_fault key_fault counts_fault letter_fault letter above key_at count_at zone_end piece_fault piece_end ring_fault ring_end item in_range coord_in uint faults past ◌unless◌ ◌orElse◌
+unfolding job items_fault head_fault choices_fault measures_fault number_after obstacles_fault obstacles_end zones_fault zones_end zone_fault zone_next opening_fault key_fault counts_fault letter_fault letter above key_at count_at zone_end piece_fault piece_end ring_fault ring_end item in_range coord_in uint faults past ◌unless◌ ◌or_else◌
 read = refl
 
 -- ---- what it says

@@ -5,7 +5,7 @@ use Rattle.std.specs.Float.{binary64}
 use Rattle.std.specs.Float.Ieee.{neg, to_bits, of_bits}
 use Rattle.float.specs.Ops.{◌/ᶠ◌, literal}
 use Rattle.float.specs.Whole.{as_f64}
-use Rattle.format.specs.Rows.{◌unless◌, ◌orElse◌}
+use Rattle.format.specs.Rows.{◌unless◌, ◌or_else◌}
 
 -- ---- read
 

@@ -3,7 +3,7 @@
 use Rattle.std.specs.Prelude.{ℕ, ◌+◌, ◌*◌, List, Float}
 use Rattle.glyphs.specs.Points.{Ring}
 use Rattle.regions.specs.Ring.{Piece}
-use Rattle.format.specs.Rows.{◌orElse◌, faults, past, each, flat}
+use Rattle.format.specs.Rows.{◌or_else◌, faults, past, each, flat}
 use Rattle.format.specs.Numbers.{u8, u16, u8_in, u16_in, coord_in, coord_at, next_coord}
 
 -- ---- a ring: vertex count u16 0..256, vertices as i32 pairs

@@ -11,7 +11,7 @@ use Rattle.std.proofs.lemmas.List.Edits.{sets, sets-eq}
 use Rattle.std.proofs.Math.Seq.{drop-append_seam}
 use Rattle.std.proofs.lemmas.Bool.{lt-leb}
 use Rattle.laws.specs.Lists.{written}
-use Rattle.format.specs.Rows.{◌unless◌, ◌orElse◌, faults, past, each, flat}
+use Rattle.format.specs.Rows.{◌unless◌, ◌or_else◌, faults, past, each, flat}
 
 -- ---- what passes
 
@@ -21,7 +21,7 @@ passed number true h e = refl
 passed number false h e = absurd (omega arith)
 
 pub both : (x y : ℕ) → x or_else y ≡ 0 → (x ≡ 0) × (y ≡ 0)
-unfolding ◌orElse◌
+unfolding ◌or_else◌
 both zero y e = (refl, e)
 both (suc x) y e = absurd (omega arith)
 
@@ -50,33 +50,33 @@ behind s at xs ys e = sym (drop-drop (length xs) at s) ∙ rw e (drop-append_sea
 
 -- the fault that a call found
 pub row_fault : {r : ℕ} (v x y : ℕ) → v ≡ x → (v ≡ 0 → ⊥) → r ≡ v → r ≡ x or_else y
-unfolding ◌orElse◌
+unfolding ◌or_else◌
 row_fault v zero y f h e = absurd (h f)
 row_fault v (suc x) y f h e = e ∙ f
 
 -- a call found none
 pub row_clear : {r : ℕ} (v x y : ℕ) → v ≡ x → v ≡ 0 → r ≡ y → r ≡ x or_else y
-unfolding ◌orElse◌
+unfolding ◌or_else◌
 row_clear v zero y f h e = e
 row_clear v (suc x) y f h e = absurd (omega arith)
 
 -- the test holds
 pub row_has : {r : ℕ} (m n number y : ℕ) → m ≤ n → r ≡ y → r ≡ number unless leb m n or_else y
-unfolding ◌unless◌ ◌orElse◌
+unfolding ◌unless◌ ◌or_else◌
 row_has m n number y h e = rw (le-leb m n h) e
 
 pub row_true : {r : ℕ} (b q : Bool) (number y : ℕ) → q ≡ b → q ≡ true → r ≡ y → r ≡ number unless b or_else y
-unfolding ◌unless◌ ◌orElse◌
+unfolding ◌unless◌ ◌or_else◌
 row_true b q number y f h e = rw (← f, h) e
 
 -- the test fails
 pub row_lacks : {r : ℕ} (m n number y : ℕ) → n < m → 0 < number → r ≡ number → r ≡ number unless leb m n or_else y
-unfolding ◌unless◌ ◌orElse◌
+unfolding ◌unless◌ ◌or_else◌
 row_lacks m n zero y h l e = absurd (omega arith)
 row_lacks m n (suc number) y h l e = rw (lt-leb m n h) e
 
 pub row_false : {r : ℕ} (b q : Bool) (number y : ℕ) → q ≡ b → q ≡ false → 0 < number → r ≡ number → r ≡ number unless b or_else y
-unfolding ◌unless◌ ◌orElse◌
+unfolding ◌unless◌ ◌or_else◌
 row_false b q zero y f h l e = absurd (omega arith)
 row_false b q (suc number) y f h l e = rw (← f, h) e
 

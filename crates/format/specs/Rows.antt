@@ -2,14 +2,14 @@
 use Prim.Native.Nat.{ℕ, zero, suc}
 use Rattle.std.specs.Prelude.{Bool, cond, List, [], ◌∷◌, ◌++◌}
 
-infixr 30 ◌orElse◌
+infixr 30 ◌or_else◌
 infix 40 ◌unless◌
 -- refused with the number, unless the test holds
 unfoldable pub ◌unless◌ : ℕ → Bool → ℕ
 number unless test = cond test 0 number
 
 -- the first fault wins
-unfoldable pub ◌orElse◌ : ℕ → ℕ → ℕ
+unfoldable pub ◌or_else◌ : ℕ → ℕ → ℕ
 zero or_else y = y
 suc x or_else y = suc x
 
@@ -18,7 +18,7 @@ suc x or_else y = suc x
 module _ {S : Type 0} where
   -- the first fault among them
   unfoldable pub faults : (S → ℕ) → (S → S) → ℕ → S → ℕ
-  unfolding ◌orElse◌
+  unfolding ◌or_else◌
   faults fault next zero at = 0
   faults fault next (suc n) at = fault at or_else faults fault next n (next at)
 

@@ -4,7 +4,7 @@ use mathlib.Core.List.{foldl}
 use Prim.Native.Nat.{compare, Ordering}
 use Rattle.std.specs.Float.{nan}
 use Rattle.std.specs.Float.Ieee.{is_nan}
-use Rattle.laws.specs.Orders.{◌thenBy◌}
+use Rattle.laws.specs.Orders.{◌then_by◌}
 use Rattle.laws.specs.Sort.{sort_by}
 use Rattle.laws.specs.Lists.{up_to}
 use Rattle.float.specs.Ops.{◌+ᶠ◌, ◌-ᶠ◌, ◌*ᶠ◌, ◌/ᶠ◌, ◌≤ᶠ◌, 0ᶠ, -0ᶠ}
@@ -44,7 +44,7 @@ assigned base = foldl ◌+◌ 0 base
 
 -- the order of two indices: the larger remainder first, then the smaller index
 unfoldable pub by_remainder : List Float → ℕ → ℕ → Ordering
-by_remainder rems a b = total_cmp (slice_index_or rems b nan) (slice_index_or rems a nan) thenBy compare a b
+by_remainder rems a b = total_cmp (slice_index_or rems b nan) (slice_index_or rems a nan) then_by compare a b
 
 unfoldable pub order : List Float → List ℕ
 order rems = sort_by (by_remainder rems) (up_to (length rems))

@@ -7,7 +7,7 @@ use Prim.Native.Nat.{compare, Ordering}
 use Rattle.std.proofs.Math.Dec.{compare_is_eq}
 use Rattle.std.proofs.lemmas.List.{length-replicate, get_or-replicate, length-map}
 use Rattle.std.specs.Float.{nan}
-use Rattle.laws.specs.Orders.{Linear, ◌thenBy◌, linear_compare, linear_on, linear_reversed, linear_then, told, compared, lt_or_le}
+use Rattle.laws.specs.Orders.{Linear, ◌then_by◌, linear_compare, linear_on, linear_reversed, linear_then, told, compared, lt_or_le}
 use Rattle.laws.specs.Sort.{sort_by}
 use Rattle.laws.specs.Sorted.{weigh, weigh_sort, rank, levels, if_lt, if_eq, sort_ascending, in_first}
 use Rattle.laws.specs.Lists.{up_to, tabulate, length_tabulate, tabulate_at, get_d_map}
@@ -40,7 +40,7 @@ linear_by_remainder : (rems : List Float) → Linear (by_remainder rems)
 unfolding by_remainder total_cmp
 linear_by_remainder rems = linear_then (linear_reversed (linear_on (λ (i : ℕ). total_key (slice_index_or rems i nan)) linear_compare)) linear_compare
 
-level_then : (o c : Ordering) → (c ≡ Ordering.eq → o ≡ Ordering.eq) → if_eq (o thenBy c) ≡ cond (compare_is_eq c) 1 0
+level_then : (o c : Ordering) → (c ≡ Ordering.eq → o ≡ Ordering.eq) → if_eq (o then_by c) ≡ cond (compare_is_eq c) 1 0
 level_then Ordering.lt Ordering.lt h = refl
 level_then Ordering.lt Ordering.eq h = let e : Ordering.lt ≡ Ordering.eq = h refl in cc
 level_then Ordering.lt Ordering.gt h = refl
@@ -181,7 +181,7 @@ floor_below n sum weights i d h k = omega (arith, below weights i h)
 pub by_keys :
     (n : ℕ) (sum : Float) (weights : List Float) (i j : ℕ) (d : Float) → i < length weights → j < length weights
     → by_remainder (rems n sum weights) j i
-    ≡ compare (total_key (remainder n sum (slice_index_or weights i d))) (total_key (remainder n sum (slice_index_or weights j d))) thenBy compare j i
+    ≡ compare (total_key (remainder n sum (slice_index_or weights i d))) (total_key (remainder n sum (slice_index_or weights j d))) then_by compare j i
 unfolding by_remainder total_cmp rems
 by_keys n sum weights i j d h k = rw (get_d_map (remainder n sum) weights i d nan h, get_d_map (remainder n sum) weights j d nan k)
 

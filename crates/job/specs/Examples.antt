@@ -5,7 +5,7 @@ use mathlib.Core.List.{List, [], ◌∷◌, ◌++◌, map, flat_map}
 use Rattle.std.proofs.lemmas.List.Edits.{sets}
 use Rattle.std.specs.Float.Ieee.{neg, div, of_int, of_bits}
 use Rattle.float.specs.Ops.{literal, 0ᶠ}
-use Rattle.format.specs.Rows.{◌unless◌, ◌orElse◌, faults, past, each}
+use Rattle.format.specs.Rows.{◌unless◌, ◌or_else◌, faults, past, each}
 use Rattle.format.specs.Numbers.{uint, bytes, item, in_range, coord_in, coord_at, coord_of, share}
 use Rattle.format.specs.Pieces.{ring, ring_fault, ring_end, piece, piece_fault, piece_end}
 use Rattle.job.specs.Head.{lent_fault, number_after, choices_fault, measures_fault, head_fault, obstacles_fault, obstacles_end}
@@ -159,12 +159,12 @@ cases =
     ∷ []
 
 cases_hold : map (λ (c : Case). read_fault c.job) cases ≡ map (λ (c : Case). c.number) cases
-unfolding cases job options obstacles plain square worked with cut two with_obstacles zeros bytes uint item in_range coord_in ◌unless◌ ◌orElse◌ faults past ring_fault ring_end piece_fault piece_end lent_fault number_after choices_fault measures_fault head_fault obstacles_fault obstacles_end letter letter_fault above key_at key_fault counts_fault count_at zone_end opening_fault zone_fault zone_next zones_end zones_fault items_fault read_fault flat_map
+unfolding cases job options obstacles plain square worked with cut two with_obstacles zeros bytes uint item in_range coord_in ◌unless◌ ◌or_else◌ faults past ring_fault ring_end piece_fault piece_end lent_fault number_after choices_fault measures_fault head_fault obstacles_fault obstacles_end letter letter_fault above key_at key_fault counts_fault count_at zone_end opening_fault zone_fault zone_next zones_end zones_fault items_fault read_fault flat_map
 cases_hold = refl
 
 -- a job that ends in or right before an item is refused with 6
 cuts_refused : map read_fault (cuts 77) ≡ 1 ∷ map (λ (s : List ℕ). 6) (cuts 76)
-unfolding cuts cut job options obstacles square worked bytes uint item in_range coord_in ◌unless◌ ◌orElse◌ faults past ring_fault ring_end piece_fault piece_end lent_fault number_after choices_fault measures_fault head_fault obstacles_fault obstacles_end letter letter_fault above key_at key_fault counts_fault count_at zone_end opening_fault zone_fault zone_next zones_end zones_fault items_fault read_fault flat_map
+unfolding cuts cut job options obstacles square worked bytes uint item in_range coord_in ◌unless◌ ◌or_else◌ faults past ring_fault ring_end piece_fault piece_end lent_fault number_after choices_fault measures_fault head_fault obstacles_fault obstacles_end letter letter_fault above key_at key_fault counts_fault count_at zone_end opening_fault zone_fault zone_next zones_end zones_fault items_fault read_fault flat_map
 cuts_refused = refl
 
 -- ---- what is read

@@ -9,7 +9,7 @@ use Rattle.discs.specs.declared.options.Radius.TheVariants.{Auto, Stated}
 use Rattle.discs.specs.declared.options.BoundaryGap.{BoundaryGap}
 use Rattle.discs.specs.declared.options.BoundaryGap.TheVariants.{Follows, Own}
 use Rattle.discs.specs.declared.options.GlyphOptions.{GlyphOptions}
-use Rattle.format.specs.Rows.{◌unless◌, ◌orElse◌, faults, each}
+use Rattle.format.specs.Rows.{◌unless◌, ◌or_else◌, faults, each}
 use Rattle.format.specs.Numbers.{u8, u16, u32, u64, u8_in, u16_in, u32_in, whole, share, coord_in, coord_at, next_coord}
 
 -- ---- where each stands

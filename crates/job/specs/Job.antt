@@ -7,7 +7,7 @@ use Rattle.discs.specs.Floor.{row_of, row_is_left_in}
 use Rattle.discs.specs.declared.options.GlyphOptions.{GlyphOptions}
 use Rattle.discs.specs.declared.rows.Row.{Row}
 use Rattle.glyphs.specs.Points.{vertices}
-use Rattle.format.specs.Rows.{◌unless◌, ◌orElse◌, faults, past, each, flat}
+use Rattle.format.specs.Rows.{◌unless◌, ◌or_else◌, faults, past, each, flat}
 use Rattle.format.specs.Numbers.{u16, u16_in}
 use Rattle.job.specs.Head.{lent_fault, head_fault, obstacles_at, options_of, obstacles_fault, obstacles_end, obstacles}
 use Rattle.job.specs.Zones.{Place, zone, zone_end, zone_fault, zone_next, zone_row}

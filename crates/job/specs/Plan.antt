@@ -16,7 +16,7 @@ use Rattle.discs.specs.declared.ceiling.Chosen.{Chosen}
 use Rattle.discs.specs.declared.ceiling.Chosen.TheVariants.{None, Some}
 use Rattle.discs.specs.Radius.{boundary_gap_of, analytic_r_hi}
 use Rattle.discs.specs.PlaceGlyphs.{Placed, Placements, work_of, place_glyphs}
-use Rattle.format.specs.Rows.{◌unless◌, ◌orElse◌}
+use Rattle.format.specs.Rows.{◌unless◌, ◌or_else◌}
 use Rattle.sheet.specs.Sheet.{Placement, Sheet, sheet_of}
 use Rattle.job.specs.Head.{lent_fault, work_fault}
 use Rattle.job.specs.Job.{Job, job_of, items_fault, sheet_fault}

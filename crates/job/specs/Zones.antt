@@ -1,6 +1,6 @@
 -- The job's zones: what is refused, what stands there, and where it ends. Definitions only.
 use Rattle.std.specs.Prelude.{ℕ, ◌+◌, Bool, true, false, cond, ◌||◌, List, [], ◌∷◌, take, drop, ltb, leb, Float}
-use Rattle.format.specs.Rows.{◌unless◌, ◌orElse◌, faults, past, each, flat}
+use Rattle.format.specs.Rows.{◌unless◌, ◌or_else◌, faults, past, each, flat}
 use Rattle.format.specs.Numbers.{u8, u16, u8_in, u16_in, whole, within}
 use Rattle.format.specs.Pieces.{piece, piece_fault, piece_end, piece_coords, ring_sizes}
 use Rattle.discs.specs.Region.{Zone}

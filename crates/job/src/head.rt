@@ -1,6 +1,6 @@
 // The job's first bytes: its length, its version, the packer's options, and the obstacles.
 ghost use Rattle.std.specs.Prelude.{◌≡◌, ◌+◌, ◌^◌, ◌<◌, ◌≤◌, length};
-ghost use Rattle.format.specs.Rows.{◌unless◌, ◌orElse◌};
+ghost use Rattle.format.specs.Rows.{◌unless◌, ◌or_else◌};
 ghost use Rattle.format.specs.Numbers.{whole, u8};
 ghost use Rattle.job.specs.Head.{lent_fault, work_fault, number_after, choices_fault, measures_fault, head_fault, arrangement_of, policy_of, radius_of, boundary_of, options_of};
 ghost use Rattle.job.specs.Steps.{ObstaclesRead};

@@ -1,7 +1,7 @@
 -- discs.rs, `escape_obstacles`: a blocked anchor moved to the nearest of the obstacles' exits. Definitions only.
 use Rattle.std.specs.Prelude.{Bool, true, cond, not, ◌||◌, List, [], ◌∷◌, Float}
 use mathlib.Core.List.{foldl}
-use Rattle.laws.specs.Orders.{◌thenBy◌, is_lt}
+use Rattle.laws.specs.Orders.{◌then_by◌, is_lt}
 use Rattle.float.specs.Ops.{◌+ᶠ◌, ◌-ᶠ◌, ◌*ᶠ◌, ◌<ᶠ◌, 1ᶠ, ½ᶠ, literal}
 use Rattle.float.specs.Total.{total_cmp}
 use Rattle.glyphs.specs.declared.rect.Point.{Point}
@@ -27,7 +27,7 @@ abbrev pub 1e-9ᶠ : Float
 -- `best`, nothing or the squared distance and the candidate: nearer to the anchor, then of smaller x, then of smaller y
 abbrev pub better : Best → Float → Point → Bool
 better Nothing d p = true
-better (Found best-d best-p) d p = is_lt (total_cmp d best-d thenBy total_cmp p.x best-p.x thenBy total_cmp p.y best-p.y)
+better (Found best-d best-p) d p = is_lt (total_cmp d best-d then_by total_cmp p.x best-p.x then_by total_cmp p.y best-p.y)
 
 -- the axis exits of an obstacle, a hair past its clearance ring
 unfoldable pub exits : Point → Float → Rectangle → List Point

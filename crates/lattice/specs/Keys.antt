@@ -3,18 +3,18 @@
 use Rattle.std.specs.Prelude.{◌≡◌, ℕ, ◌≢◌, nat_lt, refl, Float}
 use Prim.Native.Nat.{compare, Ordering}
 use Rattle.std.proofs.Common.{arith, lt-ltb, le-ltb}
-use Rattle.laws.specs.Orders.{◌thenBy◌, is_lt, Linear, Says, says, linear_compare, linear_on, linear_then}
+use Rattle.laws.specs.Orders.{◌then_by◌, is_lt, Linear, Says, says, linear_compare, linear_on, linear_then}
 use Rattle.float.specs.Total.{total_key, total_cmp, total_less}
 use Rattle.glyphs.specs.declared.rect.Point.{Point}
 use Rattle.lattice.specs.Escape.{squared_distance}
 use Rattle.lattice.specs.Lattice.{by_anchor}
 
-differs : (m n : ℕ) (o u : Ordering) → Says m n u → (m ≢ n) → is_lt (u thenBy o) ≡ nat_lt m n
+differs : (m n : ℕ) (o u : Ordering) → Says m n u → (m ≢ n) → is_lt (u then_by o) ≡ nat_lt m n
 differs m n o Ordering.lt s h = rw (lt-ltb m n s)
 differs m n o Ordering.eq s h = absurd (h s)
 differs m n o Ordering.gt s h = rw (le-ltb m n (omega arith))
 
-same : (m n : ℕ) (o u : Ordering) → Says m n u → m ≡ n → is_lt (u thenBy o) ≡ is_lt o
+same : (m n : ℕ) (o u : Ordering) → Says m n u → m ≡ n → is_lt (u then_by o) ≡ is_lt o
 same m n o Ordering.lt s h = absurd (omega arith)
 same m n o Ordering.eq s h = refl
 same m n o Ordering.gt s h = absurd (omega arith)
@@ -25,11 +25,11 @@ only m n Ordering.eq s = rw (le-ltb m n (omega arith))
 only m n Ordering.gt s = rw (le-ltb m n (omega arith))
 
 module _ (x y : Float) where
-  pub key_differs : (o : Ordering) (m n : ℕ) → m ≡ total_key x → n ≡ total_key y → (m ≢ n) → is_lt (total_cmp x y thenBy o) ≡ nat_lt m n
+  pub key_differs : (o : Ordering) (m n : ℕ) → m ≡ total_key x → n ≡ total_key y → (m ≢ n) → is_lt (total_cmp x y then_by o) ≡ nat_lt m n
   unfolding total_cmp
   key_differs o m n e f h = rw (← e, ← f) (differs m n o (compare m n) (says m n) h)
 
-  pub key_same : (o : Ordering) (m n : ℕ) → m ≡ total_key x → n ≡ total_key y → m ≡ n → is_lt (total_cmp x y thenBy o) ≡ is_lt o
+  pub key_same : (o : Ordering) (m n : ℕ) → m ≡ total_key x → n ≡ total_key y → m ≡ n → is_lt (total_cmp x y then_by o) ≡ is_lt o
   unfolding total_cmp
   key_same o m n e f h = rw (← e, ← f) (same m n o (compare m n) (says m n) h)
 

@@ -5,7 +5,7 @@ use Prim.Native.Nat.{Ordering}
 use Rattle.std.specs.Float.{binary64}
 use Rattle.std.specs.Float.Ieee.{of_int}
 use Rattle.laws.specs.Lists.{up_to}
-use Rattle.laws.specs.Orders.{◌thenBy◌}
+use Rattle.laws.specs.Orders.{◌then_by◌}
 use Rattle.laws.specs.Sort.{sort_by}
 use Rattle.float.specs.Ops.{◌+ᶠ◌, ◌-ᶠ◌, ◌*ᶠ◌, ◌/ᶠ◌, ◌≤ᶠ◌, ◌≥ᶠ◌, 0ᶠ, 2ᶠ, literal}
 use Rattle.float.specs.Order.{sqrt}
@@ -128,7 +128,7 @@ lattice_valid_cells piece anchor lattice min-clearance obstacles cap =
 -- by squared distance, then y, then x
 unfoldable pub by_anchor : Point → Point → Point → Ordering
 by_anchor anchor a b =
-    total_cmp (squared_distance a anchor) (squared_distance b anchor) thenBy total_cmp a.y b.y thenBy total_cmp a.x b.x
+    total_cmp (squared_distance a anchor) (squared_distance b anchor) then_by total_cmp a.y b.y then_by total_cmp a.x b.x
 
 unfoldable pub sort_by_anchor : Point → List Point → List Point
 sort_by_anchor anchor cells = sort_by (by_anchor anchor) cells

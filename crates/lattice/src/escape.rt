@@ -1,7 +1,7 @@
 // discs.rs, `escape_obstacles`.
 ghost use Rattle.std.specs.Prelude.{◌≡◌, ◌*◌, ◌<◌, ◌≤◌, length};
 ghost use mathlib.Core.List.{foldl};
-ghost use Rattle.laws.specs.Orders.{◌thenBy◌, is_lt};
+ghost use Rattle.laws.specs.Orders.{◌then_by◌, is_lt};
 ghost use Rattle.float.specs.Total.{total_cmp};
 ghost use Rattle.glyphs.specs.Rect.{rectangles};
 ghost use Rattle.regions.specs.Ring.{sum, piece_of};
@@ -20,7 +20,7 @@ pub enum Best {
 
 // Whether an exit comes before another: by squared distance, then x, then y.
 fn nearer(d: f64, p: Point, best_d: f64, best_p: Point) -> bool
-    ensures { result ≡ is_lt (total_cmp d best_d thenBy total_cmp p.x best_p.x thenBy total_cmp p.y best_p.y) }
+    ensures { result ≡ is_lt (total_cmp d best_d then_by total_cmp p.x best_p.x then_by total_cmp p.y best_p.y) }
 {
     let da = float::total_key(d);
     let db = float::total_key(best_d);

@@ -5,12 +5,12 @@ use Rattle.std.proofs.Common.{sym, ap, ◌∙◌, subst, inl, inr, arith}
 use Prim.Native.Nat.compare
 use Prim.Native.Nat.{ℕ, zero, suc, ◌≤◌, ◌<◌, compare, Ordering}
 
-infixr 30 ◌thenBy◌
+infixr 30 ◌then_by◌
 -- `Ordering::then`: the second where the first is equal
-abbrev pub ◌thenBy◌ : Ordering → Ordering → Ordering
-Ordering.lt thenBy b = Ordering.lt
-Ordering.eq thenBy b = b
-Ordering.gt thenBy b = Ordering.gt
+abbrev pub ◌then_by◌ : Ordering → Ordering → Ordering
+Ordering.lt then_by b = Ordering.lt
+Ordering.eq then_by b = b
+Ordering.gt then_by b = Ordering.gt
 
 -- `Ordering::reverse`
 abbrev pub reverse : Ordering → Ordering
@@ -122,12 +122,12 @@ linear_reversed l = record {
 
 -- ---- one order after another
 module _ {A : Type 0} {p q : A → A → Ordering} (l : Linear p) (m : Linear q) where
-  then_reverse : (o u : Ordering) → reverse o thenBy reverse u ≡ reverse (o thenBy u)
+  then_reverse : (o u : Ordering) → reverse o then_by reverse u ≡ reverse (o then_by u)
   then_reverse Ordering.lt u = refl
   then_reverse Ordering.eq u = refl
   then_reverse Ordering.gt u = refl
 
-  then_below : (a b c : A) (o u : Ordering) → p a b ≡ o → p b c ≡ u → o thenBy q a b ≡ Ordering.lt → u thenBy q b c ≡ Ordering.lt → p a c thenBy q a c ≡ Ordering.lt
+  then_below : (a b c : A) (o u : Ordering) → p a b ≡ o → p b c ≡ u → o then_by q a b ≡ Ordering.lt → u then_by q b c ≡ Ordering.lt → p a c then_by q a c ≡ Ordering.lt
   then_below a b c Ordering.lt Ordering.lt e f h k = rw (l.below a b c e f) refl
   then_below a b c Ordering.lt Ordering.eq e f h k = rw (← level_right l a b c f, e) refl
   then_below a b c Ordering.lt Ordering.gt e f h k = let z : Ordering.gt ≡ Ordering.lt = k in cc
@@ -136,12 +136,12 @@ module _ {A : Type 0} {p q : A → A → Ordering} (l : Linear p) (m : Linear q)
   then_below a b c Ordering.eq Ordering.gt e f h k = let z : Ordering.gt ≡ Ordering.lt = k in cc
   then_below a b c Ordering.gt u e f h k = let z : Ordering.gt ≡ Ordering.lt = h in cc
 
-  then_level : (a b c : A) (o : Ordering) → p a b ≡ o → o thenBy q a b ≡ Ordering.eq → p a c thenBy q a c ≡ p b c thenBy q b c
+  then_level : (a b c : A) (o : Ordering) → p a b ≡ o → o then_by q a b ≡ Ordering.eq → p a c then_by q a c ≡ p b c then_by q b c
   then_level a b c Ordering.lt e h = let z : Ordering.lt ≡ Ordering.eq = h in cc
   then_level a b c Ordering.eq e h = rw (l.level a b c e, m.level a b c h) refl
   then_level a b c Ordering.gt e h = let z : Ordering.gt ≡ Ordering.eq = h in cc
 
-  pub linear_then : Linear (λ (a b : A). p a b thenBy q a b)
+  pub linear_then : Linear (λ (a b : A). p a b then_by q a b)
   linear_then = record {
     turned = λ a b. rw (l.turned a b, m.turned a b) (then_reverse (p a b) (q a b));
     below = λ a b c h k. then_below a b c (p a b) (p b c) refl refl h k;

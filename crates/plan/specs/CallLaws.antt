@@ -7,7 +7,7 @@ use Rattle.std.proofs.lemmas.List.{length-replicate}
 use borrow.Author.Tests.{ne_eqb, eqb-true, eqb-false, leb-true, lt-leb, le-leb}
 use Rattle.laws.specs.Lists.{written}
 use Rattle.float.specs.Ops.{0ᶠ}
-use Rattle.format.specs.Rows.{◌unless◌, ◌orElse◌}
+use Rattle.format.specs.Rows.{◌unless◌, ◌or_else◌}
 use Rattle.format.specs.Numbers.{u16}
 use Rattle.format.specs.RowLaws.{both, passed, row_fault, row_clear}
 use Rattle.discs.specs.declared.options.GlyphOptions.{GlyphOptions}

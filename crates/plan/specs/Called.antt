@@ -5,7 +5,7 @@ use Rattle.sheet.specs.Sheet.{sheet_of}
 use Rattle.discs.specs.declared.options.GlyphOptions.{GlyphOptions}
 use Rattle.discs.specs.PlaceGlyphs.{Placements}
 use Rattle.discs.specs.Floor.{start}
-use Rattle.format.specs.Rows.{◌orElse◌}
+use Rattle.format.specs.Rows.{◌or_else◌}
 use Rattle.job.specs.Job.{Job, job_of, items_fault, sheet_fault}
 use Rattle.job.specs.Plan.{search_fault, ceiling_fault, placements_of, sheet_for, Plan}
 use Rattle.plan.specs.declared.answer.Answer.{Answer}

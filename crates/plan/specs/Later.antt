@@ -1,7 +1,7 @@
 -- Which numbers the rows refuse with: 1 and 2 by the lent slices, and neither by the rows after them.
 -- Rests on how the table of refusals is read.
 use Rattle.std.specs.Prelude.{ℕ, zero, suc, ◌+◌, ◌*◌, ◌≡◌, refl, Bool, true, false, ◌||◌, List, eqb}
-use Rattle.format.specs.Rows.{◌unless◌, ◌orElse◌, faults}
+use Rattle.format.specs.Rows.{◌unless◌, ◌or_else◌, faults}
 use Rattle.format.specs.Numbers.{u8, u16, item, coord_in, next_coord}
 use Rattle.format.specs.Pieces.{ring_fault, ring_end, piece_fault, piece_end}
 use Rattle.discs.specs.declared.ceiling.Chosen.{Chosen}
@@ -27,7 +27,7 @@ early_unless number true h z = absurd (z refl)
 early_unless number false h z = h
 
 early_else : (x y : ℕ) → Early x → Early y → Early (x or_else y)
-unfolding ◌orElse◌
+unfolding ◌or_else◌
 early_else zero y h k = k
 early_else (suc x) y h k = h
 
@@ -50,7 +50,7 @@ later_unless number true h = refl
 later_unless number false h = h
 
 later_else : (x y : ℕ) → Later x → Later y → Later (x or_else y)
-unfolding ◌orElse◌
+unfolding ◌or_else◌
 later_else zero y h k = k
 later_else (suc x) y h k = h
 

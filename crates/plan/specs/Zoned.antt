@@ -9,7 +9,7 @@ use Rattle.laws.specs.Any.{all}
 use Rattle.laws.specs.Lists.{written}
 use Rattle.glyphs.specs.Rect.{rectangles, sanitize_obstacles}
 use Rattle.glyphs.specs.declared.rect.Rectangle.{Rectangle}
-use Rattle.format.specs.Rows.{◌orElse◌}
+use Rattle.format.specs.Rows.{◌or_else◌}
 use Rattle.format.specs.RowLaws.{row_true, row_false}
 use Rattle.sheet.specs.Sheet.{Sheet, sheet_of}
 use Rattle.discs.specs.declared.options.GlyphOptions.{GlyphOptions}

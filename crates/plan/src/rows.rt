@@ -1,6 +1,6 @@
 // A job that was read into flat slices: rows 15 and 16, and the sheet.
 ghost use Rattle.std.specs.Prelude.{◌≡◌, ◌+◌, ◌*◌, ◌≤◌, length};
-ghost use Rattle.format.specs.Rows.{◌orElse◌};
+ghost use Rattle.format.specs.Rows.{◌or_else◌};
 ghost use Rattle.job.specs.Job.{job_of, rows_room};
 ghost use Rattle.job.specs.Plan.{search_fault, ceiling_fault};
 ghost use Rattle.plan.specs.Called.{ReadIn, Answered};

@@ -3,7 +3,7 @@
 use mathlib.Core.Path.{◌≡◌, refl, sym, ◌∙◌}
 use native.Mathlib.Omega.{arith}
 use Rattle.format.specs.RowLaws.{row_fault, row_clear}
-use Rattle.format.specs.Rows.{◌orElse◌}
+use Rattle.format.specs.Rows.{◌or_else◌}
 use Rattle.job.specs.Head.{obstacles_fault, obstacles_end}
 use Rattle.job.specs.HeadLaws.{head_whole}
 use Rattle.job.specs.Job.{zones_fault, items_fault}

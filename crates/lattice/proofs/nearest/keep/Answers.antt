@@ -1,0 +1,34 @@
+-- `keep` meets its contract: a place is looked for, room made and the cell put there.
+-- Rests on the laws of what that writes.
+use Rattle.std.proofs.Common.{◌≤◌, arith}
+use Rattle.laws.specs.Bounded.{lead_le}
+use Rattle.lattice.specs.Flat.{points, length_points}
+use Rattle.lattice.specs.Lattice.{by_anchor}
+use Rattle.lattice.specs.Nearest.{kept_put, kept_full}
+use Rattle.lattice.proofs.nearest.keep.Goals as goal
+
+pub place-k-requires : goal.place-k-requires
+place-k-requires c = (omega arith, c.requires.2)
+
+pub make_room-requires : goal.make_room-requires
+make_room-requires c =
+    let among : c.place-k.result ≤ c.args.m = let a = c.args in
+    omega (arith, c.place-k.ensures, lead_le (by_anchor a.anchor) a.p (points a.m a.cells.now), length_points a.m a.cells.now (omega arith)) in
+    let w = among in omega arith
+
+pub returns-then-k-cap : goal.returns-then-k-cap
+returns-then-k-cap c =
+    let a = c.args in (
+      omega arith,
+      cc (kept_put (by_anchor a.anchor) a.cells.now a.m a.cap c.place-k.result a.p c.requires.0 c.requires.1 c.place-k.ensures c.lesser-e.result c.lesser-e.ensures c.if-k-cap.true),
+    )
+
+pub returns : goal.returns
+returns c =
+    let among : c.place-k.result ≤ c.args.m = let a = c.args in
+    omega (arith, c.place-k.ensures, lead_le (by_anchor a.anchor) a.p (points a.m a.cells.now), length_points a.m a.cells.now (omega arith)) in
+    let a = c.args in
+    let w = among in (
+      omega arith,
+      kept_full (by_anchor a.anchor) a.cells.now a.m a.cap c.place-k.result a.p c.requires.0 c.requires.1 c.place-k.ensures c.if-k-cap.false,
+    )
