@@ -1,10 +1,10 @@
 -- The obstacles of a row: those so far above or below it that they keep the margin to each of its places are left out.
 -- Rests on rounding: a sum of squares is at least each of them, and a square from the margin's on has a root of at least the clearance.
-use Rattle.std.specs.Prelude.{◌≡◌, ℕ, ◌*◌, ◌≤◌, Bool, true, false, cond, not, ◌&&◌, T, List, [], ◌∷◌, take, ℤ, from_bits, refl, Float}
+use Rattle.std.specs.Prelude.{◌≡◌, ℕ, ◌*◌, ◌≤◌, Bool, true, false, cond, not, ◌&&◌, T, List, [], ◌∷◌, take, ℤ, refl, Float}
 use Rattle.std.proofs.Common.{ap, inl, inr, arith}
 use Rattle.std.proofs.lemmas.Bool.{not-false}
 use Rattle.std.specs.Float.{nan, inf, fin, binary64}
-use Rattle.std.specs.Float.Ieee.{up, down, add, mul, le, is_nan, fits}
+use Rattle.std.specs.Float.Ieee.{up, down, add, mul, le, is_nan, fits, of_bits}
 use Rattle.std.specs.Float.Ieee.Bits.{is_true}
 use Rattle.std.specs.Float.Ieee.Fits.{mul-fits}
 use Rattle.std.specs.Float.Ieee.Scale.{finite}
@@ -84,7 +84,7 @@ square_plain (fin false m e) h = round_plain binary64 (m * up e * (m * up e)) (d
 
 beyond_square : (p center length : Float) → Plain (beyond p center length *ᶠ beyond p center length)
 unfolding beyond
-beyond_square p center length = square_plain _ (max_number_r (abs (p -ᶠ center) -ᶠ ½ᶠ *ᶠ length) 0ᶠ (unfold is_nan from_bits in tt))
+beyond_square p center length = square_plain _ (max_number_r (abs (p -ᶠ center) -ᶠ ½ᶠ *ᶠ length) 0ᶠ (unfold is_nan of_bits in tt))
 
 -- ---- what is left out keeps the margin
 far_clear : (x y c : Float) (rect : Rectangle) → abreast y (high_square c) rect ≡ false → dist_to_rect x y rect ≥ᶠ c ≡ true

@@ -15,7 +15,7 @@ returns-then-t-cap c =
     let a = c.args in
     sym
     (l.invariant.4
-    ∙ rows_stop (piece_of a.sizes.now a.coords.now) a.margin.least (rectangles a.near.now) a.cap l.t a.field a.row-h l.u a.last l.left
+    ∙ rows_stop (piece_of a.sizes.now a.coords.now) a.margin.least (rectangles a.near.now) a.cap l.t a.field a.row_h l.u a.last l.left
     l.invariant.0 _ c.row_at-row.ensures _ c.many-m.ensures _ c.count_row-t.ensures l.invariant.3 c.if-t-cap.true)
 
 pub returns-then-left-eq0 : goal.returns-then-left-eq0
@@ -24,7 +24,7 @@ returns-then-left-eq0 c =
     let a = c.args in
     sym
     (l.invariant.4
-    ∙ rows_full (piece_of a.sizes.now a.coords.now) a.margin.least (rectangles a.near.now) a.cap l.t a.field a.row-h l.u a.last l.left
+    ∙ rows_full (piece_of a.sizes.now a.coords.now) a.margin.least (rectangles a.near.now) a.cap l.t a.field a.row_h l.u a.last l.left
     l.invariant.0 _ c.row_at-row.ensures _ c.many-m.ensures _ c.count_row-t.ensures l.invariant.3 c.if-t-cap.false c.if-left-eq0.true)
 
 pub loop-u-preserved : goal.loop-u-preserved
@@ -37,7 +37,7 @@ loop-u-preserved c =
       omega (arith, c.many-m.ensures),
       c.if-t-cap.false,
       l.invariant.4
-          ∙ rows_next (piece_of a.sizes.now a.coords.now) a.margin.least (rectangles a.near.now) a.cap l.t a.field a.row-h l.u a.last l.left
+          ∙ rows_next (piece_of a.sizes.now a.coords.now) a.margin.least (rectangles a.near.now) a.cap l.t a.field a.row_h l.u a.last l.left
           l.invariant.0 _ c.row_at-row.ensures _ c.many-m.ensures _ c.count_row-t.ensures l.invariant.3 c.if-t-cap.false,
     )
 
@@ -48,5 +48,5 @@ returns c =
     let e : l.u ≡ a.last = omega arith in
     sym
     (l.invariant.4
-    ∙ rows_last (piece_of a.sizes.now a.coords.now) a.margin.least (rectangles a.near.now) a.cap l.t a.field a.row-h l.u a.last l.left
+    ∙ rows_last (piece_of a.sizes.now a.coords.now) a.margin.least (rectangles a.near.now) a.cap l.t a.field a.row_h l.u a.last l.left
     l.invariant.0 _ (rw e c.row_at-row-2.ensures) _ c.many-m-2.ensures _ c.count_row.ensures e)

@@ -5,7 +5,9 @@ use Rattle.lattice.specs.Asked.{end_next, outside_outer, inside_outer, inside_ho
 use Rattle.lattice.proofs.crossings.inside_level.Goals as goal
 
 pub slice_bounds-odd-end : goal.slice_bounds-odd-end
-slice_bounds-odd-end c = ?
+slice_bounds-odd-end c =
+    let n = end_next c.requires 0 0 c.requires.some c.requires.ascend in
+    sym (length-take-le _ _ (omega (arith, n.1, c.told-crossings)))
 
 pub returns-then-not-odd : goal.returns-then-not-odd
 returns-then-not-odd c =
@@ -40,7 +42,7 @@ pub slice_bounds-odd-end-in-loop-k : goal.slice_bounds-odd-end-in-loop-k
 slice_bounds-odd-end-in-loop-k c =
     let l = c.loop-k in
     let n = end_next c.requires l.from l.k c.loop-k-test.true l.invariant.1 in
-    omega (arith, n.1, c.all-1.given.0)
+    omega (arith, n.1, c.told-crossings)
 
 pub returns-then-odd : goal.returns-then-odd
 returns-then-odd c =

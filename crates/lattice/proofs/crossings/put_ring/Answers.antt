@@ -16,7 +16,6 @@ pub loop-i-preserved : goal.loop-i-preserved
 unfolding prev
 loop-i-preserved c =
     let l = c.loop-i in
-    let put = c.put_crossing-c in
     let a = c.args in
     let v = a.v.now in (
       search rules,
@@ -26,8 +25,8 @@ loop-i-preserved c =
       search rules,
       search rules,
       λ h.
-          ring_next a.y v (length v / 2) l.i (take a.start a.crossings.now) (take l.c l.crossings) _ (l.invariant.6 (omega (arith, put.ensures.0)))
-          (put.ensures.2 h ∙ ap (λ (j : ℕ). take l.c l.crossings ++ edge_crossing a.y v l.i j) l.invariant.3),
+          ring_next a.y v (length v / 2) l.i (take a.start a.crossings.now) (take l.c l.crossings) _ (l.invariant.6 (omega (arith, c.put_crossing-c.ensures.0)))
+          (c.put_crossing-c.ensures.2 h ∙ ap (λ (j : ℕ). take l.c l.crossings ++ edge_crossing a.y v l.i j) l.invariant.3),
     )
 
 pub returns : goal.returns

@@ -74,14 +74,14 @@ loop-k-preserved c =
 pub merge_run-n-requires : goal.merge_run-n-requires
 merge_run-n-requires c =
     let w = c.loop-k.invariant.3.line in
-    (w.kept_le, w.room, omega (arith, w.waiting_le, c.merge_run-arg-3-1.given.0), w.order, w.run_order)
+    (w.kept_le, w.room, omega (arith, w.waiting_le, c.merge_run-arg-3-1.given), w.order, w.run_order)
 
 pub returns : goal.returns
 returns c =
     let l = c.loop-k in
     let a = c.args in
     let w = l.invariant.3 in
-    let room : 64 ≤ length l.run = omega (arith, c.merge_run-arg-3-1.given.0) in
+    let room : 64 ≤ length l.run = omega (arith, c.merge_run-arg-3-1.given) in
     let held =
     turn a.anchor a.nf a.nb (kept_of l.t) l.free l.blocked w.ready a.free.now a.blocked.now l.invariant.4
     (gathered_in a.anchor a.nf l.t l.free l.blocked l.run)

@@ -34,7 +34,7 @@ returns-then-left-eq0 c =
     (held.0
     ∙ sym
     (l.invariant.5
-    ∙ rows_filled piece a.margin.least near a.field.anchor a.nf a.nb cells a.field a.row-h l.u a.last l.left l.invariant.0 _ c.row_at-row.ensures _ c.many-m.ensures c.if-left-eq0.true))
+    ∙ rows_filled piece a.margin.least near a.field.anchor a.nf a.nb cells a.field a.row_h l.u a.last l.left l.invariant.0 _ c.row_at-row.ensures _ c.many-m.ensures c.if-left-eq0.true))
 
 pub overflow_add-u : goal.overflow_add-u
 overflow_add-u c =
@@ -61,8 +61,8 @@ loop-u-preserved c =
       held.1,
       held.2,
       l.invariant.5
-          ∙ rows_turn piece a.margin.least near a.field.anchor a.nf a.nb cells a.field a.row-h l.u a.last l.left l.invariant.0 _ c.row_at-row.ensures _ c.many-m.ensures
-          ∙ ap (λ (later : HexCells). gather piece a.margin.least near a.field.anchor a.nf a.nb later (visit (l.left - c.many-m.result) a.field a.row-h (l.u + 1) a.last)) (sym held.0),
+          ∙ rows_turn piece a.margin.least near a.field.anchor a.nf a.nb cells a.field a.row_h l.u a.last l.left l.invariant.0 _ c.row_at-row.ensures _ c.many-m.ensures
+          ∙ ap (λ (later : HexCells). gather piece a.margin.least near a.field.anchor a.nf a.nb later (visit (l.left - c.many-m.result) a.field a.row_h (l.u + 1) a.last)) (sym held.0),
     )
 
 pub gather_row-requires : goal.gather_row-requires
@@ -86,4 +86,4 @@ returns c =
     (held.0
     ∙ sym
     (l.invariant.5
-    ∙ rows_done piece a.margin.least near a.field.anchor a.nf a.nb cells a.field a.row-h l.u a.last l.left l.invariant.0 _ (rw e c.row_at-row-2.ensures) _ c.many-m-2.ensures e))
+    ∙ rows_done piece a.margin.least near a.field.anchor a.nf a.nb cells a.field a.row_h l.u a.last l.left l.invariant.0 _ (rw e c.row_at-row-2.ensures) _ c.many-m-2.ensures e))

@@ -19,7 +19,7 @@ loop-k-preserved c =
     let l = c.loop-k in
     let a = c.args in
     let n = length a.obstacles.now / 4 in
-    let f : Rectangle → Bool = λ (rect : Rectangle). near rect a.inset a.min-x a.max-x a.min-y a.max-y in (
+    let f : Rectangle → Bool = λ (rect : Rectangle). near rect a.inset a.min_x a.max_x a.min_y a.max_y in (
       search rules,
       search rules,
       omega (arith, c.put_if-m.ensures.0),
@@ -33,5 +33,5 @@ pub returns : goal.returns
 returns c =
     let l = c.loop-k in
     let a = c.args in
-    let f : Rectangle → Bool = λ (rect : Rectangle). near rect a.inset a.min-x a.max-x a.min-y a.max-y in
+    let f : Rectangle → Bool = λ (rect : Rectangle). near rect a.inset a.min_x a.max_x a.min_y a.max_y in
     (omega arith, rects_front l.out l.m (omega arith) ∙ sym (l.invariant.4 ∙ filter_end f a.obstacles.now l.k (length a.obstacles.now / 4) (rects_from l.out 0 l.m) c.loop-k-test.false))

@@ -29,13 +29,11 @@ pack_field-requires c =
 
 pub returns : goal.returns
 returns c =
-    let s = c.before.before.before.before.before.before.before.before.before.before.before.before.before.before.before.before.before.before.before.before.before.before.before.before.before in
-    let a = s.args in
-    let x = c.bounds-1.given.0 in
+    let a = c.args in
     let e =
-    around_is a.poi (piece_of a.sizes.now a.coords.now) a.n a.ctx (rectangles a.obstacles.now) a.rectangular x.0 x.1.0 x.1.1.0 x.1.1.1.0
+    around_is a.poi (piece_of a.sizes.now a.coords.now) a.n a.ctx (rectangles a.obstacles.now) a.rectangular c.in-Box.min_x c.in-Box.max_x c.in-Box.min_y c.in-Box.max_y
     (sym c.piece_bounds-bounds.ensures ∙ c.in-Box.is) _ _ _
     (least_of_margin _ _ c.of-margin.ensures ∙ c.inset-inset.ensures)
-    (c.near_obstacles-m.ensures.1 ∙ ap (λ (c : Float). obstacles_near (Box x.0 x.1.0 x.1.1.0 x.1.1.1.0) (rectangles a.obstacles.now) c) c.inset-inset.ensures)
-    c.field_at-field.ensures s.requires.3 in
+    (c.near_obstacles-m.ensures.1 ∙ ap (λ (k : Float). obstacles_near (Box c.in-Box.min_x c.in-Box.max_x c.in-Box.min_y c.in-Box.max_y) (rectangles a.obstacles.now) k) c.inset-inset.ensures)
+    c.field_at-field.ensures c.requires.3 in
     (c.pack_field.ensures.0 ∙ ap length e, c.pack_field.ensures.1 ∙ ap (λ (ps : List Point). written (flat ps) a.spots.now) e)
