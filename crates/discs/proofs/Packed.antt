@@ -1,8 +1,6 @@
 -- What is packed of one piece, by what the packers answer: none, the spots written, or a trial's number of them.
 -- Rests on the definitions, and on the room that was lent.
-use Rattle.std.proofs.Common.{◌≡◌, ℕ, ◌*◌, ◌≤◌, Bool, true, false, cond, not, ◌&&◌, ◌||◌, ltb, leb, List, [], ◌∷◌, length, sym, refl, ap, ◌∙◌, ⊎_elim, arith, length-take, eq-eqb, ne_eqb, leb-false}
-use denote.Enum.Declared.{tag_of}
-use types.Run.{OneOf}
+use Rattle.std.proofs.Common.{◌≡◌, ℕ, ◌*◌, ◌≤◌, Bool, true, false, cond, not, ◌&&◌, ◌||◌, ltb, leb, List, [], ◌∷◌, length, sym, refl, ap, ◌∙◌, arith, length-take, eq-eqb, ne_eqb, leb-false}
 use lib.Ieee.{Float}
 use Rattle.laws.specs.Lists.{written}
 use Rattle.glyphs.specs.Spots.{flat, length_flat}
@@ -13,7 +11,6 @@ use Rattle.glyphs.specs.declared.rect.Rectangle.{Rectangle}
 use Rattle.glyphs.specs.declared.stream.Stream.{Stream}
 use Rattle.regions.specs.Ring.{Piece, outer}
 use Rattle.glyphs.specs.Bounds.{ring_bounds}
-use Rattle.deepest.specs.contracts.search.Deepest.{the_type}
 use Rattle.deepest.specs.declared.search.Deepest.{Deepest}
 use Rattle.deepest.specs.declared.search.Deepest.TheVariants.{Found, Nothing, Full}
 use Rattle.relax.specs.declared.Spreading.{Spreading}
@@ -58,11 +55,11 @@ no_trial mode e f = let w : ◌≡◌ {A = ℕ} 0 1 = cc in absurd (omega arith)
 -- ---- a lattice
 
 module _ (piece : Piece) (n : ℕ) (ctx : PackCtx) (obstacles : List Rectangle) where
-  pub lattice_none : (found : Deepest) (rectangular : Bool) → OneOf (1 ∷ 2 ∷ []) (tag_of the_type found) → pack_uniform_piece found piece n ctx obstacles rectangular ≡ []
+  pub lattice_none : (found : Deepest) (rectangular : Bool) → ((x y d : Float) → found ≡ Found x y d → ⊥) → pack_uniform_piece found piece n ctx obstacles rectangular ≡ []
   unfolding pack_uniform_piece
   lattice_none Nothing rectangular k = refl
   lattice_none Full rectangular k = refl
-  lattice_none (Found x y clearance) rectangular k = ⊎_elim (λ (a : ◌≡◌ {A = ℕ} 0 1). absurd (omega arith)) (λ (b : ◌≡◌ {A = ℕ} 0 2). absurd (omega arith)) k
+  lattice_none (Found x y clearance) rectangular k = absurd (k x y clearance refl)
 
   pub lattice_at :
       (found : Deepest) (rectangular : Bool) (x y clearance : Float) → found ≡ Found x y clearance
@@ -103,11 +100,11 @@ module _ (piece : Piece) (n : ℕ) (ctx : PackCtx) (obstacles : List Rectangle) 
 
   -- ---- a sequence of low discrepancy
 
-  pub low_none : (found : Deepest) → OneOf (1 ∷ 2 ∷ []) (tag_of the_type found) → pack_low_discrepancy_piece found piece n ctx obstacles ≡ pack_scatter Nowhere piece n ctx obstacles
+  pub low_none : (found : Deepest) → ((x y d : Float) → found ≡ Found x y d → ⊥) → pack_low_discrepancy_piece found piece n ctx obstacles ≡ pack_scatter Nowhere piece n ctx obstacles
   unfolding pack_low_discrepancy_piece
   low_none Nothing k = refl
   low_none Full k = refl
-  low_none (Found x y clearance) k = ⊎_elim (λ (a : ◌≡◌ {A = ℕ} 0 1). absurd (omega arith)) (λ (b : ◌≡◌ {A = ℕ} 0 2). absurd (omega arith)) k
+  low_none (Found x y clearance) k = absurd (k x y clearance refl)
 
   pub low_at :
       (found : Deepest) (x y clearance : Float) (anchor : Anchor) → found ≡ Found x y clearance → anchor ≡ lone_anchor (point x y) piece n ctx obstacles

@@ -143,6 +143,11 @@ module _ (s rings sizes : List ℕ) (coords : List Float) (quotas : List ℕ) (d
             → foldl (lowered_by gap) r-hi (handed_work (x ∷ xs)) ≡ foldl (lowered_by gap) (lowering gap r-hi x) (handed_work xs)
         fold_work gap r-hi x xs = unfold handed_work lowering in go gap r-hi (is_left_in x.zone) x (handed_work xs)
 
+    all_cond : (p : Handed → Bool) (b : Bool) (x : Handed) (xs : List Handed) → all p (cond b (x ∷ xs) xs) ≡ cond b (p x) true && all p xs
+    unfolding all
+    all_cond p true x xs = refl
+    all_cond p false x xs = refl
+
     pub trial_turn :
         (numbers : Spreading) (options : GlyphOptions) (ctx : PackCtx) (obstacles : List Rectangle) → z < n
         → all (holds_all numbers options ctx obstacles) (handed_work (handed_from s rings sizes coords quotas deepest rows (n - z) z at))
@@ -151,12 +156,8 @@ module _ (s rings sizes : List ℕ) (coords : List Float) (quotas : List ℕ) (d
     trial_turn numbers options ctx obstacles h =
         rw (handed_turn h) (all_work (holds_all numbers options ctx obstacles) (handed_at s rings sizes coords quotas deepest (row_of rows z) at) _ ∙ unfold holding in refl)
       where
-        go : (p : Handed → Bool) (b : Bool) (x : Handed) (xs : List Handed) → all p (cond b (x ∷ xs) xs) ≡ cond b (p x) true && all p xs
-        go p true x xs = unfold all in refl
-        go p false x xs = refl
-
         all_work : (p : Handed → Bool) (x : Handed) (xs : List Handed) → all p (handed_work (x ∷ xs)) ≡ cond (is_left_in x.zone) (p x) true && all p (handed_work xs)
-        all_work p x xs = unfold handed_work in go p (is_left_in x.zone) x (handed_work xs)
+        all_work p x xs = unfold handed_work in all_cond p (is_left_in x.zone) x (handed_work xs)
 
 pub each_turn :
     (rows rings sizes : List ℕ) (P : Row → Offsets → Type 0) (z n : ℕ) (at : Offsets) → z < n → EachRow rows rings sizes P (n - z) z at

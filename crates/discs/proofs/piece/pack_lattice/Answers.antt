@@ -1,0 +1,35 @@
+-- `pack_lattice` meets its contract: none, the lattice's spots written, or their number.
+-- Rests on the contracts of the lattice packer and its trial.
+use Rattle.std.proofs.Common.{rules}
+use Rattle.glyphs.specs.Rect.{rectangles}
+use Rattle.regions.specs.Ring.{piece_of}
+use Rattle.discs.proofs.Packed.{packs_none, packs_written, packs_trial, lattice_none, lattice_at, trial_few}
+use Rattle.discs.proofs.piece.pack_lattice.Goals as goal
+
+pub returns-in_default : goal.returns-in_default
+returns-in_default c =
+    let a = c.args in
+    packs_none a.ctx.mode a.n _ a.spots.now
+    (lattice_none (piece_of a.sizes.now a.coords.now) a.n a.ctx (rectangles a.obstacles.now) a.found a.rectangular c.in_default.not-Found)
+
+pub returns-then-ctx : goal.returns-then-ctx
+returns-then-ctx c =
+    let a = c.args in
+    packs_written a.ctx.mode a.n _ _ c.pack_uniform_piece.result _ a.spots.now
+    (lattice_at (piece_of a.sizes.now a.coords.now) a.n a.ctx (rectangles a.obstacles.now) a.found a.rectangular c.in-Found.x c.in-Found.y c.in-Found.field-2 c.in-Found.is)
+    c.pack_uniform_piece.ensures.0 c.pack_uniform_piece.ensures.1 (search rules) c.requires.5
+
+pub probe_uniform_piece-requires : goal.probe_uniform_piece-requires
+probe_uniform_piece-requires c =
+    let t = c.if-ctx.false in
+    (c.requires.1, c.requires.2, c.requires.0, t, c.requires.6 t, c.requires.3)
+
+pub returns : goal.returns
+returns c =
+    let r = c.probe_uniform_piece in
+    let t = c.if-ctx.false in
+    let a = c.args in
+    let piece = piece_of a.sizes.now a.coords.now in
+    packs_trial a.ctx.mode a.n _ _ r.result _ a.spots.now t
+    (lattice_at piece a.n a.ctx (rectangles a.obstacles.now) a.found a.rectangular c.in-Found.x c.in-Found.y c.in-Found.field-2 c.in-Found.is)
+    r.ensures (trial_few piece a.n a.ctx (rectangles a.obstacles.now) a.found a.rectangular t (c.requires.6 t))
