@@ -1,0 +1,20 @@
+-- `put_placement` writes a zone's bytes.
+-- Rests on what its calls ensure, and on the bytes of a zone.
+use Prim.Native.Nat.{◌*◌}
+use native.Mathlib.Omega.{arith}
+use lib.Seq.{length-sets}
+use Rattle.plan.specs.Rows.{length_cut}
+use Rattle.plan.specs.Bytes.{placement_put}
+use Rattle.plan.proofs.zones.put_placement.Goals as goal
+
+pub put_spots-requires : goal.put_spots-requires
+put_spots-requires c =
+    let a = c.args in
+    rw (c.floats_at.ensures, length_cut 0 (a.placed * 2) a.spots.now (omega (arith, c.requires.3)), c.put_zone-from.ensures.1)
+    (simp length-sets (omega (arith, c.put_zone-from.ensures.0, c.requires.0)))
+
+pub returns : goal.returns
+returns c =
+    let a = c.args in
+    let p = c.requires in
+    placement_put a.s.now a.row a.placed a.spots.now p.1 p.3 a.sheet.now _ _ a.at _ _ c.put_zone-from.ensures.0 c.put_zone-from.ensures.1 c.floats_at.ensures c.put_spots.ensures
