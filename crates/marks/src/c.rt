@@ -37,22 +37,19 @@ fn quotas_number(a: Sharing) -> u8
     }
 }
 
-#[unsafe(no_mangle)]
-pub extern "C" fn marks_root(x: f64) -> f64
+pub fn marks_root(x: f64) -> f64
     ensures { result ≡ sqrt x }
 {
     crate::leaves::root(x)
 }
 
-#[unsafe(no_mangle)]
-pub extern "C" fn marks_hash(bytes: &[u8]) -> u64
+pub fn marks_hash(bytes: &[u8]) -> u64
     ensures { result ≡ fnv1a bytes.now }
 {
     crate::leaves::hash(bytes)
 }
 
-#[unsafe(no_mangle)]
-pub extern "C" fn marks_radical_inverse(index: u64, base: u64, number: &mut u8) -> f64
+pub fn marks_radical_inverse(index: u64, base: u64, number: &mut u8) -> f64
     ensures value { result ≡ inverse_value (inverse_answer index base) }
     ensures lent { number.new ≡ inverse_number (inverse_answer index base) }
 {
@@ -61,16 +58,14 @@ pub extern "C" fn marks_radical_inverse(index: u64, base: u64, number: &mut u8) 
     inverse_value(answer)
 }
 
-#[unsafe(no_mangle)]
-pub extern "C" fn marks_quotas(count: u64, weights: &[f64], quotas: &mut [u64]) -> u8
+pub fn marks_quotas(count: u64, weights: &[f64], quotas: &mut [u64]) -> u8
     ensures answer { result ≡ quotas_number (quotas_answer count weights.now (length quotas.old)) }
     ensures lent { quotas.new ≡ quotas_after count weights.now quotas.old }
 {
     quotas_number(crate::leaves::quotas(count, weights, quotas))
 }
 
-#[unsafe(no_mangle)]
-pub extern "C" fn marks_plan(
+pub fn marks_plan(
     job: &[u8],
     first: &mut [f64],
     second: &mut [f64],
