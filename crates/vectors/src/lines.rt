@@ -1,28 +1,21 @@
 // A line: what was asked, and the answer.
-use libc::STDOUT_FILENO;
+use std::io;
 
 // A number, in decimal.
-pub fn number(asked: &[u8], answer: u64) {
-    io::write_all(STDOUT_FILENO, asked);
-    io::write_all(STDOUT_FILENO, b" = ");
-    io::print_decimal(STDOUT_FILENO, answer);
-    io::write_all(STDOUT_FILENO, b"\n");
+pub fn number<R: Print>(rt: &R, asked: &str, answer: u64) -> io::Result<()> {
+    println!(rt; "{asked} = {answer}")
 }
 
 // 64 bits, in hexadecimal.
-pub fn bits(asked: &[u8], answer: u64) {
-    io::write_all(STDOUT_FILENO, asked);
-    io::write_all(STDOUT_FILENO, b" = ");
-    io::print_hex(STDOUT_FILENO, answer, 16);
-    io::write_all(STDOUT_FILENO, b"\n");
+pub fn bits<R: Print>(rt: &R, asked: &str, answer: u64) -> io::Result<()> {
+    println!(rt; "{asked} = {answer:016x}")
 }
 
 // A float's bit pattern, or that it is a NaN.
-pub fn float(asked: &[u8], answer: f64) {
+pub fn float<R: Print>(rt: &R, asked: &str, answer: f64) -> io::Result<()> {
     if answer != answer {
-        io::write_all(STDOUT_FILENO, asked);
-        io::write_all(STDOUT_FILENO, b" = NaN\n");
-        return;
+        println!(rt; "{asked} = NaN")
+    } else {
+        bits(rt, asked, f64::to_bits(answer))
     }
-    bits(asked, f64::to_bits(answer));
 }

@@ -7,9 +7,11 @@ mod numbers;
 mod quotas;
 mod stream;
 
-fn main() {
-    hash::run();
-    stream::run();
-    numbers::run();
-    quotas::run();
+use std::io;
+
+fn main(rt: HostRuntime) -> io::Result<()> {
+    hash::run(&rt)?;
+    stream::run(&rt)?;
+    numbers::run(&rt)?;
+    quotas::run(&rt)
 }
