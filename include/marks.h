@@ -1,4 +1,4 @@
-/* The disc packer's entries for C. Link target/staticlib/libmarks.a, which `rt staticlib marks` proves and writes. */
+/* The disc packer's entries for C. Link target/staticlib/libmarks.a, which `tools/build` proves and writes. */
 #ifndef MARKS_H
 #define MARKS_H
 #include <stddef.h>

@@ -1,4 +1,4 @@
-//! Links libmarks.a, which `rt staticlib marks` proves and writes. `MARKS_LIB`
+//! Links libmarks.a, which `tools/build` proves and writes. `MARKS_LIB`
 //! names its folder, by default the repository's `target/staticlib`.
 
 use std::env;

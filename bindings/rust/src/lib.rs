@@ -13,7 +13,7 @@
 //! }
 //! ```
 //!
-//! `build.rs` links `libmarks.a`, which `rt staticlib marks` proves and writes:
+//! `build.rs` links `libmarks.a`, which `tools/build` proves and writes:
 //! from the folder that the variable `MARKS_LIB` names, by default the
 //! repository's `target/staticlib`.
 

@@ -15,7 +15,7 @@ use Rattle.rounding.specs.Bounds.{Sized}
 use Rattle.glyphs.specs.Points.{Ring, vertices, x_at, y_at}
 use Rattle.regions.specs.Ring.{prev, next}
 use Rattle.regions.specs.Inside.{point_in_polygon}
-use Rattle.regions.specs.Clearance.{edge_square, square_at, within}
+use Rattle.regions.specs.Clearance.{edge_square, square_at}
 use Rattle.format.specs.Exact.{Coordinate, coordinate_sized}
 use Rattle.format.specs.Known.{RingKnown}
 use Rattle.claims.specs.Straddle.{Edge, inside_between, crossing}

@@ -1,6 +1,6 @@
 -- What is packed of one piece, by what the packers answer: none, the spots written, or a trial's number of them.
 -- Rests on the definitions, and on the room that was lent.
-use Rattle.std.proofs.Common.{◌≡◌, ℕ, ◌*◌, ◌≤◌, Bool, true, false, cond, not, ◌&&◌, ◌||◌, ltb, leb, List, [], ◌∷◌, length, sym, refl, ap, ◌∙◌, arith, length-take, eq-eqb, ne_eqb, leb-false}
+use Rattle.std.proofs.Common.{◌≡◌, ℕ, ◌*◌, ◌≤◌, Bool, true, false, cond, not, ◌&&◌, ◌||◌, ltb, leb, List, [], length, sym, refl, ap, ◌∙◌, arith, length-take, eq-eqb, ne_eqb, leb-false}
 use lib.Ieee.{Float}
 use Rattle.laws.specs.Lists.{written}
 use Rattle.glyphs.specs.Spots.{flat, length_flat}

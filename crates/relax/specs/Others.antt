@@ -2,7 +2,7 @@
 -- Rests on the definitions and the laws of `all`.
 use Rattle.std.specs.Prelude.{◌≡◌, Bool, not, cond, ◌&&◌, ◌||◌, length, get_or, take, drop, set, Float}
 use Rattle.std.proofs.Math.Path.{refl, sym}
-use Rattle.std.proofs.Common.{ap, ◌∙◌, add-one, le_refl, length-set, get_or-set_same}
+use Rattle.std.proofs.Common.{◌∙◌, add-one, le_refl, length-set, get_or-set_same}
 use Rattle.std.proofs.Math.Bool.{true, false, and_assoc, or-true}
 use mathlib.Core.List.{List, [], ◌∷◌, foldl}
 use Prim.Native.Nat.{ℕ, zero, suc, ◌+◌, ◌<◌}

@@ -3,7 +3,6 @@
 use mathlib.Core.Path.{◌≡◌, refl, sym, ◌∙◌}
 use Prim.Native.Nat.{◌*◌, ◌<◌, ◌≤◌}
 use native.Mathlib.Omega.{arith}
-use mathlib.Core.List.{[]}
 use Rattle.format.specs.RowLaws.{stop, faults_turn, faults_end, past_turn, past_end, length_turn, length_end, put_turn, put_end}
 use Rattle.job.specs.Zones.{zone_fault, zone_next, zone_end, zone_coords, zone_sizes, zone_rings, zone_row}
 use Rattle.job.specs.Steps.{place_of}

@@ -6,7 +6,6 @@ use lib.ListN.{length, drop}
 use Rattle.float.specs.Ops.{◌-ᶠ◌, 0ᶠ}
 use Rattle.float.specs.Order.{max}
 use Rattle.regions.specs.Ring.{sum, rings_from, piece_of}
-use Rattle.regions.specs.Ring as ring
 use Rattle.regions.specs.Area.{area_sum, piece_area}
 use Rattle.regions.proofs.area.piece_area.Given as goal
 

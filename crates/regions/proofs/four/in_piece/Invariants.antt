@@ -6,7 +6,7 @@ use mathlib.Core.Bool.{Bool, not, cond, ◌&&◌}
 use lib.Dec.{eqb}
 use lib.ListN.{length, drop}
 use lib.Ieee.{Float}
-use Rattle.regions.specs.Ring.{Piece, sum, outer, holes, rings_from, piece_of}
+use Rattle.regions.specs.Ring.{Piece, sum, rings_from, piece_of}
 use Rattle.regions.specs.Clearance.{in_any, within}
 use Rattle.regions.specs.Four.{Which, at, told}
 use Rattle.regions.proofs.four.in_piece.Given as goal

@@ -2,7 +2,6 @@
 -- Rests on the laws that take a piece apart ring by ring, of a margin's squares, and that more rings never make the least greater.
 use Prim.Native.Nat.{◌+◌}
 use mathlib.Core.Path.{◌≡◌, sym, ap, ◌∙◌, subst}
-use mathlib.Core.Bool.{false}
 use mathlib.Core.List.{foldl}
 use native.Mathlib.Omega.{arith}
 use borrow.Author.Rules.{rules}

@@ -7,7 +7,6 @@ use lib.ListN.{length}
 use borrow.Author.Rules.{rules}
 use Rattle.laws.specs.Any.{all_step, all_end}
 use Rattle.glyphs.specs.Spots.{spots_of, spots_at_lem, length_spots}
-use Rattle.scatter.specs.Cells.{keeps}
 use Rattle.scatter.proofs.cells.keeps_each.Goals as goal
 
 pub loop-k-init : goal.loop-k-init
