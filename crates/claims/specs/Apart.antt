@@ -10,10 +10,12 @@ use Rattle.float.specs.Whole.{floor, ceil, as_i64}
 use Rattle.rounding.specs.Value.{U, mag}
 use Rattle.rounding.specs.Bounds.{Sized}
 use Rattle.rounding.specs.Distance.{Length}
-use Rattle.rounding.specs.Row.{Step, length_step, row_law}
+use Rattle.rounding.specs.Row.{Step, length_step}
+use Rattle.rounding.proofs.Row.{row_law}
 use Rattle.rounding.specs.Steps.{Reach}
-use Rattle.rounding.specs.Walk.{across_walk, along_walk}
-use Rattle.rounding.specs.Lattice.{rem_euclid, odd, rectangular, hexagonal}
+use Rattle.rounding.proofs.Walk.{across_walk, along_walk}
+use Rattle.rounding.specs.Lattice.{rem_euclid, odd}
+use Rattle.rounding.proofs.Lattice.{rectangular, hexagonal}
 use Rattle.glyphs.specs.declared.rect.Point.{Point}
 use Rattle.lattice.specs.declared.context.Lattice.{Lattice}
 use Rattle.lattice.specs.Escape.{point}

@@ -9,11 +9,13 @@ use Rattle.std.specs.Float.Ieee.Scale.{finite}
 use Rattle.float.specs.Ops.{◌+ᶠ◌, ◌/ᶠ◌, 0ᶠ, -0ᶠ, 2ᶠ}
 use Rattle.float.specs.Order.{abs, max}
 use Rattle.rounding.specs.Value.{U, mag}
-use Rattle.rounding.specs.Bounds.{Sized, wider, add_sized, sub_sized, mul_sized, div_sized}
+use Rattle.rounding.specs.Bounds.{Sized, wider}
+use Rattle.rounding.proofs.Bounds.{add_sized, sub_sized, mul_sized, div_sized}
 use Rattle.rounding.specs.Signs.{zero_sized}
 use Rattle.rounding.specs.Selection.{abs_num, abs_mag, max_case, max_zero_num, max_zero_nonneg}
 use Rattle.rounding.specs.Row.{two_sized, two_mag}
-use Rattle.rounding.specs.Shares.{Weights, none, more, minus_zero, total_sized}
+use Rattle.rounding.specs.Shares.{Weights, none, more, minus_zero}
+use Rattle.rounding.proofs.Shares.{total_sized}
 use Rattle.rounding.specs.Shares as Shares
 use Rattle.glyphs.specs.Apportion.{total}
 use Rattle.glyphs.specs.Points.{Ring, vertices, x_at, y_at}

@@ -13,7 +13,7 @@ use Rattle.float.specs.Laws.Compare.{le_trans, le_self, not_lt_le}
 use Rattle.rounding.specs.Comparison.{le→≼}
 use Rattle.rounding.specs.Bounds.{Sized, wider, ranged}
 use Rattle.rounding.specs.Signs.{zero_num, zero_val, zero_sized}
-use Rattle.rounding.specs.Sqrt.{sqrt_sized}
+use Rattle.rounding.proofs.Sqrt.{sqrt_sized}
 use Rattle.glyphs.specs.Points.{Ring, vertices}
 use Rattle.regions.specs.Ring.{Piece, outer}
 use Rattle.regions.specs.Inside.{point_in_polygon}

@@ -15,8 +15,9 @@ use Rattle.float.specs.Laws.Fits.{root_of_fits}
 use Rattle.float.specs.Laws.Order.{min_fits, min_number_r, min_le_l, min_le_r}
 use Rattle.float.specs.Laws.Compare.{le_trans, lt_le}
 use Rattle.rounding.specs.Comparison.{le→≼}
-use Rattle.rounding.specs.Bounds.{Sized, wider, div_sized_by, ranged}
-use Rattle.rounding.specs.Lengths.{factor}
+use Rattle.rounding.specs.Bounds.{Sized, wider, ranged}
+use Rattle.rounding.proofs.Bounds.{div_sized_by}
+use Rattle.rounding.proofs.Lengths.{factor}
 use Rattle.rounding.specs.Signs.{Nonneg, zero_num, zero_val, zero_sized}
 use Rattle.glyphs.specs.Rect.{is_finite}
 use Rattle.regions.specs.Sizes.{sized_number}

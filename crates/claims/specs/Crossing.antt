@@ -14,9 +14,12 @@ use Rattle.float.specs.Laws.Compare.{lt_le, not_lt_le}
 use Rattle.rounding.specs.Signed.{Exact, signed, signed_le, ◌⊕◌, ◌⊖◌, ◌≼◌, ◌≺◌, ◌≈◌}
 use Rattle.rounding.specs.Value.{U, sgn, mag, val, Num, Digits, digits, digits_at, digits_whole}
 use Rattle.rounding.specs.Comparison.{lt→≺, ¬lt→≼}
-use Rattle.rounding.specs.Errors.{Rounding, Product, Quotient, sub_of_finite, add_of_finite, mul_of_finite, div_law}
-use Rattle.rounding.specs.Bounds.{Sized, add_sized, sub_sized, mul_sized, ranged}
-use Rattle.rounding.specs.Exactness.{Sum, sub_exact}
+use Rattle.rounding.specs.Errors.{Rounding, Product, Quotient}
+use Rattle.rounding.proofs.Errors.{sub_of_finite, add_of_finite, mul_of_finite, div_law}
+use Rattle.rounding.specs.Bounds.{Sized, ranged}
+use Rattle.rounding.proofs.Bounds.{add_sized, sub_sized, mul_sized}
+use Rattle.rounding.specs.Exactness.{Sum}
+use Rattle.rounding.proofs.Exactness.{sub_exact}
 use Rattle.regions.specs.Sizes.{sized_number}
 use Rattle.format.specs.Exact.{Coordinate, coordinate_sized}
 use Rattle.claims.specs.Straddle.{straddles, crossing}

@@ -24,7 +24,8 @@ use Rattle.rounding.specs.Signs.{zero_num, zero_val}
 use Rattle.rounding.specs.Selection.{finite_not_nan}
 use Rattle.rounding.specs.Casts.{floor_usize}
 use Rattle.rounding.specs.Distance.{tiny_is}
-use Rattle.rounding.specs.Shares.{Weight, Weights, none, more, sum, Summed, summed, bit25, Share, share_law}
+use Rattle.rounding.specs.Shares.{Weight, Weights, none, more, sum, Summed, bit25, Share}
+use Rattle.rounding.proofs.Shares.{summed, share_law}
 use Rattle.claims.specs.HandOut.{assigned_sum, handed_sum}
 use Rattle.glyphs.specs.Apportion.{total, no_weight, share, whole_share, remainder, base, rems, assigned, by_remainder, apportion}
 use Rattle.glyphs.specs.Quotas.{quota_of, left_over, by_rank, apportioned}

@@ -14,8 +14,9 @@ use Rattle.float.specs.Ops.{◌-ᶠ◌, ◌*ᶠ◌, ◌≤ᶠ◌, 0ᶠ}
 use Rattle.rounding.specs.Signed.{signed, nat, plain, ◌⊖◌, ◌≼◌}
 use Rattle.rounding.specs.Value.{U, E, sgn, mag, val, digits, digits_at}
 use Rattle.rounding.specs.Comparison.{≼→le}
-use Rattle.rounding.specs.Errors.{sub_of_finite, mul_of_finite}
-use Rattle.rounding.specs.Bounds.{Sized, wider, sub_sized, mul_sized}
+use Rattle.rounding.proofs.Errors.{sub_of_finite, mul_of_finite}
+use Rattle.rounding.specs.Bounds.{Sized, wider}
+use Rattle.rounding.proofs.Bounds.{sub_sized, mul_sized}
 use Rattle.rounding.specs.Signs.{Nonneg, zero_num, zero_sized, zero_val, zero_mag, product_nonneg}
 use Rattle.lattice.specs.Uniform.{1e-3ᶠ}
 use Rattle.discs.specs.declared.ceiling.Chosen.{Chosen}

@@ -6,11 +6,11 @@ use Rattle.float.specs.Ops.{◌+ᶠ◌, ◌*ᶠ◌, ◌<ᶠ◌, 0ᶠ, 1ᶠ}
 use Rattle.float.specs.Order.{max}
 use Rattle.rounding.specs.Value.{U, U_pos, U-is, mag, digits}
 use Rattle.rounding.specs.Comparison.{≺→lt}
-use Rattle.rounding.specs.Errors.{mul_of_finite}
+use Rattle.rounding.proofs.Errors.{mul_of_finite}
 use Rattle.rounding.specs.Bounds.{Sized}
 use Rattle.rounding.specs.Signs.{Nonneg, positive, product_nonneg, zero_num, zero_val}
 use Rattle.rounding.specs.Selection.{max_zero_same}
-use Rattle.rounding.specs.Lengths.{factor, inset_sized}
+use Rattle.rounding.proofs.Lengths.{factor, inset_sized}
 use Rattle.format.specs.Numbers.{share}
 use Rattle.format.specs.Exact.{share_exact}
 use Rattle.job.specs.Known.{Shares}

@@ -10,8 +10,9 @@ use Rattle.float.specs.Ops.{◌+ᶠ◌, ◌-ᶠ◌, ◌*ᶠ◌, ◌/ᶠ◌, ε}
 use Rattle.rounding.specs.Signed.{Exact, signed, signed_le, nat, abs, ◌⊕◌, ◌⊖◌, ◌⊗◌, ◌≼◌, ◌≈◌}
 use Rattle.rounding.specs.Relative.{Close, close_chain, close_wider}
 use Rattle.rounding.specs.Value.{U, E, H, sgn, mag, val}
-use Rattle.rounding.specs.Errors.{add_of_finite}
-use Rattle.rounding.specs.Bounds.{Sized, sub_sized, add_sized, mul_sized}
+use Rattle.rounding.proofs.Errors.{add_of_finite}
+use Rattle.rounding.specs.Bounds.{Sized}
+use Rattle.rounding.proofs.Bounds.{sub_sized, add_sized, mul_sized}
 use Rattle.format.specs.Exact.{Coordinate, coordinate_sized}
 use Rattle.claims.specs.Closeness.{close_same, product_close, quotient_close, scaled_sign, near_enough}
 use Rattle.claims.specs.Straddle.{crossing}

@@ -5,7 +5,7 @@ use Rattle.std.proofs.Common.{lit≤}
 use Rattle.float.specs.Ops.{◌+ᶠ◌, ◌*ᶠ◌, 0ᶠ, 1ᶠ}
 use Rattle.float.specs.Order.{max}
 use Rattle.rounding.specs.Bounds.{wider}
-use Rattle.rounding.specs.Lengths.{inset_sized, spacing_sized, spacing_length}
+use Rattle.rounding.proofs.Lengths.{inset_sized, spacing_sized, spacing_length}
 use Rattle.glyphs.specs.declared.rect.Rectangle.{Rectangle}
 use Rattle.glyphs.specs.declared.bounds.Bounds.{Bounds}
 use Rattle.glyphs.specs.declared.bounds.Bounds.TheVariants.{Box, Nothing}

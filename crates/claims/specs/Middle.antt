@@ -7,8 +7,10 @@ use Rattle.std.specs.Float.Ieee.{of_bits, fits}
 use Rattle.float.specs.Ops.{◌+ᶠ◌, ◌*ᶠ◌, 0ᶠ, ½ᶠ}
 use Rattle.rounding.specs.Signed.{signed, nat, plain, ◌⊕◌, ◌≼◌}
 use Rattle.rounding.specs.Value.{U, E, sgn, mag, val, Digits, digits, digits_twice}
-use Rattle.rounding.specs.Errors.{Rounding, Product, add_of_finite, mul_of_finite}
-use Rattle.rounding.specs.Bounds.{Sized, wider, add_sized, mul_sized}
+use Rattle.rounding.specs.Errors.{Rounding, Product}
+use Rattle.rounding.proofs.Errors.{add_of_finite, mul_of_finite}
+use Rattle.rounding.specs.Bounds.{Sized, wider}
+use Rattle.rounding.proofs.Bounds.{add_sized, mul_sized}
 use Rattle.rounding.specs.Signs.{Nonneg, zero_mag, zero_val, zero_sized, rounding_nonneg, product_nonneg}
 
 -- ---- one half

@@ -18,7 +18,8 @@ use Rattle.rounding.specs.Value.{E, sgn, mag, val}
 use Rattle.rounding.specs.Comparison.{lt→≺, ≺→lt}
 use Rattle.rounding.specs.Signs.{zero_num, zero_val, positive}
 use Rattle.rounding.specs.Selection.{finite_not_nan}
-use Rattle.rounding.specs.Shares.{Weight, Weights, sum, Summed, summed}
+use Rattle.rounding.specs.Shares.{Weight, Weights, sum, Summed}
+use Rattle.rounding.proofs.Shares.{summed}
 use Rattle.regions.specs.Area.{piece_area}
 use Rattle.regions.specs.Facts.{zero_number}
 use Rattle.glyphs.specs.Apportion.{total, no_weight, assigned, apportion}

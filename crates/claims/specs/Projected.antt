@@ -14,10 +14,12 @@ use Rattle.rounding.specs.Signed.{Exact, signed, signed_le, same_size, nat, abs,
 use Rattle.rounding.specs.Relative.{Close, close_chain, close_wider}
 use Rattle.rounding.specs.Value.{U, U_pos, E, H, sgn, mag, val}
 use Rattle.rounding.specs.Comparison.{lt→≺, ¬lt→≼, ≺→lt}
-use Rattle.rounding.specs.Errors.{add_of_finite, sub_of_finite, mul_of_finite, div_of_finite}
-use Rattle.rounding.specs.Bounds.{Sized, wider, add_sized, sub_sized, mul_sized, div_sized}
+use Rattle.rounding.proofs.Errors.{add_of_finite, sub_of_finite, mul_of_finite, div_of_finite}
+use Rattle.rounding.specs.Bounds.{Sized, wider}
+use Rattle.rounding.proofs.Bounds.{add_sized, sub_sized, mul_sized, div_sized}
 use Rattle.rounding.specs.Signs.{Nonneg, zero_num, zero_mag, zero_val, zero_sized, square_plus}
-use Rattle.rounding.specs.Exactness.{Multiple, Sum, mul_exact, add_exact}
+use Rattle.rounding.specs.Exactness.{Multiple, Sum}
+use Rattle.rounding.proofs.Exactness.{mul_exact, add_exact}
 use Rattle.regions.specs.Clearance.{along}
 use Rattle.format.specs.Exact.{Coordinate, coordinate_sized}
 use Rattle.claims.specs.Closest.{Foot, first, last, inner}

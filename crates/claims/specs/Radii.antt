@@ -8,8 +8,9 @@ use Rattle.float.specs.Ops.{◌*ᶠ◌, 0ᶠ, ½ᶠ}
 use Rattle.float.specs.Order.{max}
 use Rattle.rounding.specs.Signed.{plain}
 use Rattle.rounding.specs.Value.{U, sgn, mag, Digits, digits, digits_at}
-use Rattle.rounding.specs.Errors.{mul_of_finite}
-use Rattle.rounding.specs.Bounds.{Sized, wider, mul_sized}
+use Rattle.rounding.proofs.Errors.{mul_of_finite}
+use Rattle.rounding.specs.Bounds.{Sized, wider}
+use Rattle.rounding.proofs.Bounds.{mul_sized}
 use Rattle.rounding.specs.Signs.{Nonneg, zero_sized, zero_val, product_nonneg}
 use Rattle.rounding.specs.Selection.{max_case}
 use Rattle.glyphs.specs.declared.rect.Rectangle.{Rectangle}

@@ -10,8 +10,9 @@ use Rattle.float.specs.Ops.{◌+ᶠ◌, ◌-ᶠ◌, ◌*ᶠ◌}
 use Rattle.rounding.specs.Signed.{Exact, signed, signed_le, nat, abs, plain, ◌⊕◌, ◌⊖◌, ◌⊗◌, ◌≼◌, ◌≈◌}
 use Rattle.rounding.specs.Relative.{Close, close_wider}
 use Rattle.rounding.specs.Value.{U, U_pos, E, H, sgn, mag, val, digits_zero, digits_whole}
-use Rattle.rounding.specs.Errors.{add_of_finite, sub_of_finite, mul_of_finite}
-use Rattle.rounding.specs.Bounds.{Sized, add_sized, sub_sized, mul_sized}
+use Rattle.rounding.proofs.Errors.{add_of_finite, sub_of_finite, mul_of_finite}
+use Rattle.rounding.specs.Bounds.{Sized}
+use Rattle.rounding.proofs.Bounds.{add_sized, sub_sized, mul_sized}
 use Rattle.rounding.specs.Signs.{Nonneg, square_plus}
 use Rattle.regions.specs.Clearance.{along, edge_square}
 use Rattle.format.specs.Exact.{Coordinate, coordinate_sized}

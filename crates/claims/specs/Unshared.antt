@@ -25,9 +25,9 @@ use Rattle.float.specs.Whole.{floor, as_f64}
 use Rattle.float.specs.Total.{total_key}
 use Rattle.rounding.specs.Signed.{signed, nat, ◌≼◌}
 use Rattle.rounding.specs.Value.{U, U_pos, sgn, mag, Num, own, digits_zero}
-use Rattle.rounding.specs.Errors.{add_of_finite, mul_law}
+use Rattle.rounding.proofs.Errors.{add_of_finite, mul_law}
 use Rattle.rounding.specs.Signs.{rounding_nonneg, add_case, sub_none}
-use Rattle.rounding.specs.Whole.{of_int_exact}
+use Rattle.rounding.proofs.Whole.{of_int_exact}
 use Rattle.rounding.specs.Casts.{floor_usize}
 use Rattle.rounding.specs.Shares.{Weight, minus_zero}
 use Rattle.glyphs.specs.Apportion.{total, no_weight, share, whole_share, remainder, base, rems, assigned, by_remainder, apportion}

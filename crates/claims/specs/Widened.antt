@@ -8,10 +8,13 @@ use Rattle.float.specs.Ops.{◌+ᶠ◌, ◌-ᶠ◌, ◌*ᶠ◌, ◌≤ᶠ◌}
 use Rattle.float.specs.Order.{sqrt, max}
 use Rattle.rounding.specs.Signed.{plain}
 use Rattle.rounding.specs.Value.{U, sgn, mag}
-use Rattle.rounding.specs.Bounds.{Sized, wider, sub_sized}
-use Rattle.rounding.specs.Signs.{Nonneg, squares_sized, squares_nonneg}
+use Rattle.rounding.specs.Bounds.{Sized, wider}
+use Rattle.rounding.proofs.Bounds.{sub_sized}
+use Rattle.rounding.specs.Signs.{Nonneg}
+use Rattle.rounding.proofs.Signs.{squares_sized, squares_nonneg}
 use Rattle.rounding.specs.Selection.{max_case}
-use Rattle.rounding.specs.Sqrt.{sqrt_law, sqrt_sized}
+use Rattle.rounding.specs.Sqrt.{sqrt_law}
+use Rattle.rounding.proofs.Sqrt.{sqrt_sized}
 use Rattle.rounding.specs.Distance.{Length, spaced_less}
 use Rattle.glyphs.specs.declared.rect.Point.{Point}
 use Rattle.glyphs.specs.declared.rect.Rectangle.{Rectangle}

@@ -8,8 +8,9 @@ use Rattle.float.specs.Ops.{◌+ᶠ◌, ◌-ᶠ◌, ◌*ᶠ◌, ◌/ᶠ◌, ◌<
 use Rattle.float.specs.Laws.Compare.{le_self, not_lt_le}
 use Rattle.rounding.specs.Signed.{Exact, signed_le, nat, abs, ◌⊕◌, ◌≼◌}
 use Rattle.rounding.specs.Value.{U, U_pos, E, sgn, mag, val, Num, Digits, digits_at, digits_whole}
-use Rattle.rounding.specs.Bounds.{Sized, add_sized, sub_sized, mul_sized}
-use Rattle.rounding.specs.Errors.{div_law, mul_law, add_law, sub_law}
+use Rattle.rounding.specs.Bounds.{Sized}
+use Rattle.rounding.proofs.Bounds.{add_sized, sub_sized, mul_sized}
+use Rattle.rounding.proofs.Errors.{div_law, mul_law, add_law, sub_law}
 use Rattle.rounding.specs.Comparison.{le→≼, ≼→le}
 use Rattle.regions.specs.Sizes.{sized_number}
 use Rattle.deepest.specs.Deepest.{better_of}

@@ -8,8 +8,9 @@ use native.Mathlib.Omega.{arith}
 use Rattle.std.specs.Float.Ieee.Bits.{is_true}
 use Rattle.float.specs.Ops.{◌-ᶠ◌, ◌/ᶠ◌, ◌≤ᶠ◌, ◌>ᶠ◌, 2ᶠ}
 use Rattle.rounding.specs.Value.{U, U_pos, mag, Num, digits_whole}
-use Rattle.rounding.specs.Bounds.{Sized, wider, add_sized, sub_sized}
-use Rattle.rounding.specs.Errors.{div_law}
+use Rattle.rounding.specs.Bounds.{Sized, wider}
+use Rattle.rounding.proofs.Bounds.{add_sized, sub_sized}
+use Rattle.rounding.proofs.Errors.{div_law}
 use Rattle.glyphs.specs.Points.{Ring}
 use Rattle.regions.specs.Ring.{Piece}
 use Rattle.regions.specs.Clearance.{signed_clearance}

@@ -14,8 +14,9 @@ use Rattle.float.specs.Order.{min, max}
 use Rattle.float.specs.Laws.Compare.{lt_le}
 use Rattle.rounding.specs.Signed.{nat, signed, ◌⊕◌, ◌≼◌, ◌≺◌}
 use Rattle.rounding.specs.Value.{sgn, mag, val, Num, digits}
-use Rattle.rounding.specs.Bounds.{Sized, wider, add_sized, sub_sized, ranged}
-use Rattle.rounding.specs.Errors.{add_law}
+use Rattle.rounding.specs.Bounds.{Sized, wider, ranged}
+use Rattle.rounding.proofs.Bounds.{add_sized, sub_sized}
+use Rattle.rounding.proofs.Errors.{add_law}
 use Rattle.rounding.specs.Comparison.{≼→le, ¬le→≺}
 use Rattle.rounding.specs.Signs.{Nonneg, zero_num, zero_val}
 use Rattle.glyphs.specs.Points.{Ring, vertices, x_at, y_at}

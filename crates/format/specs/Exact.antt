@@ -6,11 +6,12 @@ use Rattle.std.specs.Float.{binary64}
 use Rattle.std.specs.Float.Ieee.{neg, of_int, of_bits, unlike}
 use Rattle.float.specs.Ops.{literal}
 use Rattle.rounding.specs.Signed.{Exact, signed, nat, opp, ◌≈◌}
-use Rattle.rounding.specs.Whole.{of_int_exact}
+use Rattle.rounding.proofs.Whole.{of_int_exact}
 use Rattle.rounding.specs.Value.{U-is, E, sgn, val, neg_num, neg_mag, neg_val}
 use Rattle.rounding.specs.Bounds.{Sized}
-use Rattle.rounding.specs.Errors.{div_of_finite}
-use Rattle.rounding.specs.Exactness.{Multiple, int_multiple, div_exact}
+use Rattle.rounding.proofs.Errors.{div_of_finite}
+use Rattle.rounding.specs.Exactness.{Multiple}
+use Rattle.rounding.proofs.Exactness.{int_multiple, div_exact}
 use Rattle.format.specs.Numbers.{share, in_range, coord_of}
 
 -- 1024.0

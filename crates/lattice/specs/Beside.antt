@@ -18,7 +18,7 @@ use Rattle.float.specs.Laws.Order.{max_number_r}
 use Rattle.float.specs.Laws.Square.{round_plain}
 use Rattle.rounding.specs.Value.{Num, sgn, mag, digits}
 use Rattle.rounding.specs.Comparison.{≼→le}
-use Rattle.rounding.specs.Errors.{add_of_finite}
+use Rattle.rounding.proofs.Errors.{add_of_finite}
 use Rattle.rounding.specs.Signs.{Nonneg, add_case}
 use Rattle.glyphs.specs.declared.rect.Rectangle.{Rectangle}
 use Rattle.glyphs.specs.Rect.{rectangles, dist_to_rect, clear_of_obstacles, filter}

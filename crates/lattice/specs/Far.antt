@@ -20,9 +20,10 @@ use Rattle.float.specs.Laws.Square.{Square, times_self}
 use Rattle.rounding.specs.Signed.{Exact, signed, nat, opp, ◌≼◌}
 use Rattle.rounding.specs.Value.{U, sgn, mag, val, Num, digits, digits_zero, neg_num, neg_val}
 use Rattle.rounding.specs.Comparison.{le→≼, ≼→le, ¬lt→≼}
-use Rattle.rounding.specs.Errors.{add_of_finite, mul_of_finite}
-use Rattle.rounding.specs.Monotone.{add_mono, sub_mono, mul_mono}
-use Rattle.rounding.specs.Bounds.{Sized, neg_sized, add_sized, sub_sized, mul_sized, ranged}
+use Rattle.rounding.proofs.Errors.{add_of_finite, mul_of_finite}
+use Rattle.rounding.proofs.Monotone.{add_mono, sub_mono, mul_mono}
+use Rattle.rounding.specs.Bounds.{Sized, neg_sized, ranged}
+use Rattle.rounding.proofs.Bounds.{add_sized, sub_sized, mul_sized}
 use Rattle.rounding.specs.Signs.{Nonneg, zero_num, zero_val, square_plus, add_case}
 use Rattle.regions.specs.Clearance.{edge_square}
 use Rattle.regions.specs.Margin.{high_square, none, high_square_lem}

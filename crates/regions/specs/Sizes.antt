@@ -17,8 +17,9 @@ use Rattle.float.specs.Laws.Nan.{Number}
 use Rattle.float.specs.Laws.Zero.{origin, origin_is, zero_not_above}
 use Rattle.float.specs.Laws.Compare.{not_lt_le, le_trans, le_self}
 use Rattle.rounding.specs.Value.{U, mag, Num}
-use Rattle.rounding.specs.Bounds.{Sized, wider, neg_sized, add_sized, sub_sized, mul_sized, ranged}
-use Rattle.rounding.specs.Sqrt.{sqrt_sized}
+use Rattle.rounding.specs.Bounds.{Sized, wider, neg_sized, ranged}
+use Rattle.rounding.proofs.Bounds.{add_sized, sub_sized, mul_sized}
+use Rattle.rounding.proofs.Sqrt.{sqrt_sized}
 use Rattle.rounding.specs.Comparison.{le→≼}
 use Rattle.rounding.specs.Signs.{zero_num, zero_mag, zero_val}
 use Rattle.glyphs.specs.Points.{Ring, vertices, x_at, y_at}

@@ -5,12 +5,10 @@ pub mod Relative
 -- a float as an exact number, and one rounding
 pub mod Value
 pub mod Comparison
-pub mod Nearest
 pub mod Rounded
 -- the operations
 pub mod Operations
 pub mod Errors
-pub mod Monotone
 pub mod Bounds
 pub mod Signs
 pub mod Selection
@@ -28,6 +26,4 @@ pub mod Cells
 pub mod Row
 pub mod Steps
 pub mod Lattice
-pub mod Walk
 pub mod Shares
-pub mod Examples

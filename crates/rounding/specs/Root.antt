@@ -5,11 +5,11 @@ use Rattle.std.proofs.Common.{sym, ap, ◌∙◌, subst, inl, inr, le_trans, le_
 use Prim.Native.Nat.{ℕ, zero, suc, ◌+◌, ◌-◌, ◌*◌, ◌/◌, ◌^◌, ◌≤◌, ◌<◌, zero-le, compare}
 use Rattle.std.proofs.Math.Nat.{lt-div-mul-add, pow-succ', mul-mul-mul_comm}
 use Rattle.std.specs.Float.Ieee.{size, nearest}
-use Rattle.std.specs.Float.Ieee.Digits.{size-lt, size_reaches}
+use Rattle.std.specs.Float.Ieee.Digits.{size_reaches}
 use Rattle.std.specs.Float.Ieee.Nearest.{nearest-ge}
 use Rattle.laws.specs.Orders.{says, lt_or_le}
 use Rattle.float.specs.Root.{floor_root}
-use Rattle.float.specs.Laws.Floor.{whole_part, mid, root_lt}
+use Rattle.float.specs.Laws.Floor.{whole_part, mid}
 use Rattle.float.specs.Laws.Nearest.{Nearest, nearest_of}
 use Rattle.rounding.specs.Relative.{Under}
 use Rattle.rounding.specs.Value.{E, H, Digits, pow_split}
@@ -36,10 +36,10 @@ root n = rest n * 2 ^ steps n
 
 -- ---- r steps of K are nearest to √n
 module _ (n K r : ℕ) (c : Nearest n (K * K) r) where
-  half_least : (a : ℕ) → a * a ≤ n → 2 * a ≤ 2 * (r * K) + K
+  pub half_least : (a : ℕ) → a * a ≤ n → 2 * a ≤ 2 * (r * K) + K
   half_least a h = le_trans (root_le {a = 2 * a} {b = (2 * r + 1) * K} (le_trans (omega (arith, h, c.high)) (le_of_eq (mul-mul-mul_comm (2 * r + 1) (2 * r + 1) K K)))) (omega arith)
 
-  half_most : (b : ℕ) → n ≤ b * b → 2 * (r * K) ≤ 2 * b + K
+  pub half_most : (b : ℕ) → n ≤ b * b → 2 * (r * K) ≤ 2 * b + K
   half_most b h = go r c.low
     where
       go : (r : ℕ) → (2 * r - 1) * (2 * r - 1) * (K * K) ≤ 4 * n → 2 * (r * K) ≤ 2 * b + K
@@ -57,7 +57,7 @@ module _ (n K r : ℕ) (c : Nearest n (K * K) r) where
   step_most b K0 h = let l : 2 * r ≤ 2 * b + 1 = le_of_mul-le-mul_right {k = K} (omega (arith, half_most (b * K) h)) K0 in omega (arith, l)
 
 -- ---- the digits of n's own root
-own : (n : ℕ) → Nearest n (2 ^ steps n * 2 ^ steps n) (rest n)
+pub own : (n : ℕ) → Nearest n (2 ^ steps n * 2 ^ steps n) (rest n)
 own n =
     let K = 2 ^ steps n in
     let q = lead n in
@@ -67,21 +67,18 @@ own n =
     (lt_of_lt_of_le (whole_part n).1 (le_trans (mul-le-mul next next) (le_of_eq (mul-mul-mul_comm (q + 1) K (q + 1) K))))
     (compare (4 * n) (mid q (steps n))) (says (4 * n) (mid q (steps n)))
 
-above : (n : ℕ) → lead n ≤ rest n
+pub above : (n : ℕ) → lead n ≤ rest n
 above n = nearest-ge (lead n) (compare (4 * n) (mid (lead n) (steps n)))
 
-part_least : (n a : ℕ) → a * a ≤ n → a ≤ part n
-part_least n a h = le_of_suc-le-suc (lt_of_lt_of_le (root_lt (lt_of_le_of_lt h (whole_part n).1)) (omega arith))
-
-part_most : (n b : ℕ) → n ≤ b * b → part n ≤ b
+pub part_most : (n b : ℕ) → n ≤ b * b → part n ≤ b
 part_most n b h = root_le (le_trans (whole_part n).0 h)
 
 -- no digit is dropped, or the leading ones are all 53
-data Dropped (n : ℕ) : ℕ → Type 0 where
+pub data Dropped (n : ℕ) : ℕ → Type 0 where
   none : Dropped n 0
   some : (k : ℕ) → H * 2 ^ k ≤ part n → Dropped n k
 
-dropped : (n : ℕ) → Dropped n (steps n)
+pub dropped : (n : ℕ) → Dropped n (steps n)
 dropped n = go (steps n) refl
   where
     long : (z k : ℕ) → z - 53 ≡ suc k → 52 + suc k < z
@@ -91,50 +88,13 @@ dropped n = go (steps n) refl
     go zero e = none
     go (suc k) e = some (suc k) (le_trans (le_of_eq (sym (pow-add 2 52 (suc k)))) (size_reaches (part n) (52 + suc k) (long (size (part n)) k e)))
 
-full_lead : (n k : ℕ) → H * 2 ^ k ≤ part n → H ≤ part n / 2 ^ k
+pub full_lead : (n k : ℕ) → H * 2 ^ k ≤ part n → H ≤ part n / 2 ^ k
 full_lead n k h = (le-div_iff_mul-le (pow_pos k)).1 h
 
 -- THE ROOT LAW: what is at most √n is at most g but for a 2 ^ -53th, what is at least √n is at least g but for that; and e is what is lost below a unit
 pub record NearRoot (e n g : ℕ) : Type 0 where
   pub least : (a : ℕ) → a * a ≤ n → Under E 1 e a g
   pub most : (b : ℕ) → n ≤ b * b → Under E 1 e g b
-
--- h stands for H, and 2 * h for E
-in_part : (h a r K : ℕ) → 2 * a ≤ 2 * (r * K) + K → h * K ≤ r * K → a * (h * 2) ≤ r * K * (h * 2 + 1) + 0
-in_part h a r K p q = omega (arith, mul-le-mul_right h p)
-
-of_part : (h b r K : ℕ) → 2 * (r * K) ≤ 2 * b + K → h * K ≤ b → r * K * (h * 2) ≤ b * (h * 2 + 1) + 0
-of_part h b r K p q = omega (arith, mul-le-mul_right h p)
-
-near_some : (n k r : ℕ) → H * 2 ^ k ≤ part n → H ≤ r → Nearest n (2 ^ k * 2 ^ k) r → NearRoot 0 n (r * 2 ^ k)
-near_some n k r d f c = record {
-  least = λ a h. in_part H a r (2 ^ k) (half_least n (2 ^ k) r c a h) (mul-le-mul_right (2 ^ k) f);
-  most = λ b h. of_part H b r (2 ^ k) (half_most n (2 ^ k) r c b h) (le_trans d (part_most n b h));
-}
-
-near_none : (n r : ℕ) → Nearest n 1 r → NearRoot H n (r * 1)
-near_none n r c = record { least = λ a h. omega (arith, half_least n 1 r c a h); most = λ b h. omega (arith, half_most n 1 r c b h) }
-
-weaker : (e n g : ℕ) → NearRoot 0 n g → NearRoot e n g
-weaker e n g r = record { least = λ a h. omega (arith, r.least a h); most = λ b h. omega (arith, r.most b h) }
-
-pub near_root : (n : ℕ) → NearRoot H n (root n)
-near_root n = go (steps n) (dropped n) (rest n) (above n) (own n)
-  where
-    go : (k : ℕ) → Dropped n k → (r : ℕ) → part n / 2 ^ k ≤ r → Nearest n (2 ^ k * 2 ^ k) r → NearRoot H n (r * 2 ^ k)
-    go k none r l c = near_none n r c
-    go k (some j h) r l c = weaker H n (r * 2 ^ j) (near_some n j r h (le_trans (full_lead n j h) l) c)
-
--- from 2 ^ 106 on nothing is lost below a unit
-pub near_root_full : (n : ℕ) → E * E ≤ n → NearRoot 0 n (root n)
-near_root_full n l = go (steps n) refl (dropped n) (rest n) (above n) (own n)
-  where
-    digits : 54 ≤ size (part n)
-    digits = lt_of_not-le (λ (g : size (part n) ≤ 53). not-le_of_lt (lt_of_lt_of_le (size-lt (part n)) (pow_mono g)) (part_least n E l))
-
-    go : (k : ℕ) → steps n ≡ k → Dropped n k → (r : ℕ) → part n / 2 ^ k ≤ r → Nearest n (2 ^ k * 2 ^ k) r → NearRoot 0 n (r * 2 ^ k)
-    go k e none r i c = absurd (omega (arith, e, digits))
-    go k e (some j h) r i c = near_some n j r h (le_trans (full_lead n j h) i) c
 
 -- ---- a number of 53 digits stays on its side
 short : (q j k : ℕ) → q < E → j < k → q * 2 ^ j < H * 2 ^ k

@@ -1,6 +1,6 @@
 -- Numbers that are not negative: sums, products, quotients and squares of such are such; a difference in order is; x - x is +0.
 -- Rests on `Errors`: 0 has 53 digits, so rounding does not pass it.
-use Rattle.std.specs.Prelude.{◌≡◌, refl, ◌⊎◌, Bool, true, false, not, ℕ, ◌+◌, ◌*◌, ◌≤◌, ◌<◌, T, ltb, Float}
+use Rattle.std.specs.Prelude.{◌≡◌, refl, ◌⊎◌, Bool, true, false, not, ℕ, ◌*◌, ◌≤◌, ◌<◌, T, ltb, Float}
 use Rattle.std.proofs.Common.{◌∙◌, inl, inr, lt_irrefl, mul-pos, arith, ltb→lt, lit<}
 use Rattle.std.proofs.Math.Nat.{sub_self}
 use Rattle.std.proofs.Math.Dec.{not_T}
@@ -9,13 +9,13 @@ use Rattle.std.specs.Float.Ieee.{up, down, round, sum, add, sub, neg, unlike, of
 use Rattle.std.specs.Float.Ieee.Bits.{is_false}
 use Rattle.std.specs.Float.Ieee.Fits.{down_pos}
 use Rattle.std.specs.Float.Ieee.Scale.{finite, round_same}
-use Rattle.float.specs.Ops.{◌+ᶠ◌, ◌-ᶠ◌, ◌*ᶠ◌, 0ᶠ}
+use Rattle.float.specs.Ops.{◌+ᶠ◌, ◌-ᶠ◌, 0ᶠ}
 use Rattle.rounding.specs.Signed.{Exact, signed, nat, ◌⊕◌, ◌≼◌}
-use Rattle.rounding.specs.Value.{U, U_pos, E, sgn, mag, val, Num, digits_zero}
-use Rattle.rounding.specs.Bounds.{Sized, add_sized, mul_sized}
+use Rattle.rounding.specs.Value.{U, U_pos, sgn, mag, val, Num, digits_zero}
+use Rattle.rounding.specs.Bounds.{Sized}
 use Rattle.rounding.specs.Rounded.{round_case, round_bounded}
 use Rattle.rounding.specs.Operations.{IsRound, add_is}
-use Rattle.rounding.specs.Errors.{Rounding, Product, Quotient, add_of_finite, mul_of_finite}
+use Rattle.rounding.specs.Errors.{Rounding, Product, Quotient}
 
 abbrev pub Nonneg : Float → Type 0
 Nonneg x = nat 0 ≼ val x
@@ -77,19 +77,6 @@ module _ (x y z : Float) where
 
 pub square_plus : {x z : Float} → Product x x z → sgn z ≡ false
 square_plus {x} r = r.sign ∙ like (sgn x)
-
--- x * x + y * y: no NaN, not infinite, not negative
-module _ (x y : Float) (k : ℕ) (X : Sized x k) (Y : Sized y k) (h : k * k + k * k < E) where
-  pub squares_sized : Sized (x *ᶠ x +ᶠ y *ᶠ y) (k * k + k * k)
-  squares_sized = add_sized (mul_sized X X (omega (arith, h))) (mul_sized Y Y (omega (arith, h))) h
-
-  pub squares_nonneg : Nonneg (x *ᶠ x +ᶠ y *ᶠ y)
-  squares_nonneg =
-      let P = mul_sized X X (omega (arith, h)) in
-      let Q = mul_sized Y Y (omega (arith, h)) in
-      let p = square_plus (mul_of_finite x x X.num X.num P.num.fine) in
-      let q = square_plus (mul_of_finite y y Y.num Y.num Q.num.fine) in
-      rounding_nonneg (add_of_finite (x *ᶠ x) (y *ᶠ y) P.num Q.num squares_sized.num.fine) (rw (p, q) (omega arith))
 
 -- a sum that is not negative is finite or +∞
 pub add_case : (x y : Float) → Num x → Num y → Nonneg x → Nonneg y → T (finite (x +ᶠ y)) ⊎ (x +ᶠ y ≡ inf false)

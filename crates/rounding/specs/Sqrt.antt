@@ -15,11 +15,10 @@ use Rattle.float.specs.Laws.Fits.{root_of_fits}
 use Rattle.float.specs.Laws.Zero.{origin, origin_is}
 use Rattle.float.specs.Laws.Monotone.{root_of_mono}
 use Rattle.rounding.specs.Signed.{signed, plain, nat, ◌≼◌}
-use Rattle.rounding.specs.Value.{U, U_pos, E, sgn, mag, Num, Digits, digits_at, digits_zero, digits_whole, own, mag_of, sgn_of, fine_of, mag_under}
+use Rattle.rounding.specs.Value.{U, U_pos, sgn, mag, Num, digits_at, digits_zero, own, mag_of, sgn_of, fine_of, mag_under}
 use Rattle.rounding.specs.Comparison.{le→≼, ≼→le}
 use Rattle.rounding.specs.Signs.{Nonneg, zero_num, zero_val}
-use Rattle.rounding.specs.Bounds.{Sized}
-use Rattle.rounding.specs.Root.{root, rest, steps, NearRoot, near_root_full, root_least, root_most}
+use Rattle.rounding.specs.Root.{root, rest, steps, root_most}
 
 -- what the root is taken of
 square : (s : Bool) (m : ℕ) (e : ℤ) → Num (fin s m e) → m * up e * (U * U) / down e ≡ mag (fin s m e) * U
@@ -45,7 +44,7 @@ root_value : (n : ℕ) → root n < overflow binary64 → HasValue (nearest_root
 unfolding nearest_root U
 root_value n h = units_val binary64 false (rest n) (steps n) h
 
-root_zero : (n : ℕ) → n ≡ 0 → root n ≡ 0
+pub root_zero : (n : ℕ) → n ≡ 0 → root n ≡ 0
 root_zero n e = le_antisymm (root_most n 0 digits_zero (le_of_eq e)) zero-le
 
 sqrt_plus : (m : ℕ) (e : ℤ) → Num (fin false (suc m) e) → Rooted (fin false (suc m) e) (sqrt (fin false (suc m) e))
@@ -92,31 +91,6 @@ sqrt_law (fin true (suc m) e) p h = absurd (clash (mag (fin true (suc m) e)) (do
     clash zero d l q = omega (arith, q, mul-pos (mul-pos {m = suc m} (omega arith) (up_pos e)) U_pos)
     clash (suc g) d l q = omega (arith, l)
 
--- ---- what follows
-module _ (x z : Float) (r : Rooted x z) where
-  -- nothing is lost below a unit: the root of the least unit is 2 ^ 537 units
-  pub sqrt_near : NearRoot 0 (mag x * U) (mag z)
-  sqrt_near = subst (λ (k : ℕ). NearRoot 0 (mag x * U) k) (sym r.size) (go (mag x))
-    where
-      big : E * E ≤ U
-      big = unfold U in lit≤ tt
-
-      nothing : (a : ℕ) → a * a ≤ 0 → a ≤ 0
-      nothing zero h = omega arith
-      nothing (suc a) h = absurd (omega (arith, h))
-
-      go : (g : ℕ) → NearRoot 0 (g * U) (root (g * U))
-      go zero =
-          let k : root (0 * U) ≡ 0 = root_zero (0 * U) (zero-mul U) in
-          record { least = λ a h. omega (arith, nothing a (le_trans h (le_of_eq (zero-mul U)))); most = λ b h. omega (arith, k) }
-      go (suc g) = near_root_full (suc g * U) (le_trans big (omega arith))
-
-  pub sqrt_least : (a : ℕ) → Digits a → a * a ≤ mag x * U → a ≤ mag z
-  sqrt_least a d h = le_trans (root_least (mag x * U) a d h) (le_of_eq (sym r.size))
-
-  pub sqrt_most : (b : ℕ) → Digits b → mag x * U ≤ b * b → mag z ≤ b
-  sqrt_most b d h = le_trans (le_of_eq r.size) (root_most (mag x * U) b d h)
-
 pub sqrt_mono : (x y : Float) → Num x → Num y → Nonneg x → Nonneg y → mag x ≤ mag y → mag (sqrt x) ≤ mag (sqrt y)
 sqrt_mono x y p q o o' h =
     let a = plain (sgn x) (mag x) o in
@@ -128,9 +102,3 @@ sqrt_mono x y p q o o' h =
     let d = plain (sgn (sqrt y)) (mag (sqrt y)) s.nonneg in
     let m = le→≼ (sqrt x) (sqrt y) r.num s.num (root_of_mono binary64 x y l (≼→le x y p q (omega (arith, a, b, h)))) in
     omega (arith, c, d, m)
-
--- the root of k² at most is k at most
-pub sqrt_sized : (x : Float) (k : ℕ) → Sized x (k * k) → Nonneg x → k < E → Sized (sqrt x) k
-sqrt_sized x k s o h =
-    let r = sqrt_law x s.num o in
-    record { num = r.num; size = sqrt_most x (sqrt x) r (k * U) (digits_whole k h) (omega (arith, mul-le-mul_right U s.size)) }

@@ -18,17 +18,22 @@ use Rattle.rounding.specs.Signed.{◌⊕◌}
 use Rattle.rounding.specs.Value.{U, sgn, mag, val}
 use Rattle.rounding.specs.Bounds.{Sized, wider, neg_sized}
 use Rattle.rounding.specs.Signs.{zero_sized, zero_val}
-use Rattle.rounding.specs.Exactness.{Sum, add_exact}
+use Rattle.rounding.specs.Exactness.{Sum}
+use Rattle.rounding.proofs.Exactness.{add_exact}
 use Rattle.rounding.specs.Root.{NearRoot}
-use Rattle.rounding.specs.Sqrt.{sqrt_law, sqrt_near}
+use Rattle.rounding.specs.Sqrt.{sqrt_law}
+use Rattle.rounding.proofs.Sqrt.{sqrt_near}
 use Rattle.rounding.specs.Distance.{Length, Spaced}
-use Rattle.rounding.specs.Lengths.{coordinate_sized, spacing_length}
-use Rattle.rounding.specs.Spacing.{computed, spacing}
-use Rattle.rounding.specs.Cells.{cell_of, TwoApart, cells_across}
+use Rattle.rounding.proofs.Lengths.{coordinate_sized, spacing_length}
+use Rattle.rounding.specs.Spacing.{computed}
+use Rattle.rounding.proofs.Spacing.{spacing}
+use Rattle.rounding.specs.Cells.{cell_of, TwoApart}
+use Rattle.rounding.proofs.Cells.{cells_across}
 use Rattle.rounding.specs.Row.{hex_row, length_step, two_num}
 use Rattle.rounding.specs.Steps.{Reach, across, along, offset}
-use Rattle.rounding.specs.Lattice.{odd, hexagonal, rectangular}
-use Rattle.rounding.specs.Walk.{across_walk}
+use Rattle.rounding.specs.Lattice.{odd}
+use Rattle.rounding.proofs.Lattice.{hexagonal, rectangular}
+use Rattle.rounding.proofs.Walk.{across_walk}
 
 -- ---- numbers
 -- 65536.0 and 2 ^ -20

@@ -9,8 +9,9 @@ use Rattle.float.specs.Whole.{floor, ceil, as_i64}
 use Rattle.rounding.specs.Signed.{signed, nat, ◌⊕◌, ◌≼◌, ◌≺◌}
 use Rattle.rounding.specs.Relative.{Under}
 use Rattle.rounding.specs.Value.{U, U_pos, H, sgn, mag}
-use Rattle.rounding.specs.Errors.{div_of_finite}
-use Rattle.rounding.specs.Bounds.{Sized, wider, sub_sized, div_sized, div_sized_by}
+use Rattle.rounding.proofs.Errors.{div_of_finite}
+use Rattle.rounding.specs.Bounds.{Sized, wider}
+use Rattle.rounding.proofs.Bounds.{sub_sized, div_sized, div_sized_by}
 use Rattle.rounding.specs.Signs.{zero_sized}
 use Rattle.rounding.specs.Integers.{int, int_le}
 use Rattle.rounding.specs.Whole.{ones}

@@ -8,7 +8,8 @@ use Rattle.std.specs.Float.Ieee.Scale.{finite}
 use Rattle.float.specs.Ops.{◌+ᶠ◌, ◌-ᶠ◌, ◌*ᶠ◌, ◌/ᶠ◌}
 use Rattle.rounding.specs.Signed.{Exact, signed, ◌⊕◌, ◌⊖◌, ◌≼◌}
 use Rattle.rounding.specs.Value.{U, U_pos, sgn, mag, val, Num, digits_zero}
-use Rattle.rounding.specs.Rounded.{round_mag, rounded_units}
+use Rattle.rounding.specs.Rounded.{round_mag}
+use Rattle.rounding.proofs.Rounded.{rounded_units}
 use Rattle.rounding.specs.Operations.{IsRound, add_is, sub_is, mul_is, div_is}
 
 -- v and w units with signs, rounded
