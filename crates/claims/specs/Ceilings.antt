@@ -12,7 +12,7 @@ use Rattle.laws.specs.Truth.{yes}
 use Rattle.float.specs.Ops.{◌+ᶠ◌, ◌/ᶠ◌, ◌≤ᶠ◌, ◌>ᶠ◌, 0ᶠ, 1ᶠ, ∞}
 use Rattle.float.specs.Order.{abs, min}
 use Rattle.float.specs.Laws.Fits.{root_of_fits}
-use Rattle.float.specs.Laws.Order.{min_fits, min_number_r, min_le_l, min_le_r}
+use Rattle.float.proofs.Laws.Order.{min_fits, min_number_r, min_le_l, min_le_r}
 use Rattle.float.specs.Laws.Compare.{le_trans, lt_le}
 use Rattle.rounding.specs.Comparison.{le→≼}
 use Rattle.rounding.specs.Bounds.{Sized, wider, ranged}

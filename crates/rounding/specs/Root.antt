@@ -10,7 +10,8 @@ use Rattle.std.specs.Float.Ieee.Nearest.{nearest-ge}
 use Rattle.laws.specs.Orders.{says, lt_or_le}
 use Rattle.float.specs.Root.{floor_root}
 use Rattle.float.specs.Laws.Floor.{whole_part, mid}
-use Rattle.float.specs.Laws.Nearest.{Nearest, nearest_of}
+use Rattle.float.specs.Laws.Nearest.{Nearest}
+use Rattle.float.proofs.Laws.Nearest.{nearest_of}
 use Rattle.rounding.specs.Relative.{Under}
 use Rattle.rounding.specs.Value.{E, H, Digits, pow_split}
 

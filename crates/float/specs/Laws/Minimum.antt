@@ -1,9 +1,8 @@
 -- The least of roots is the root of the least, as data and not by value alone: of two by the test that a program makes, by `min`, and of any number one after another.
 -- The values are those of `Laws/Square.antt`: a NaN, -0 and the infinity are among them. Rests on `Laws/Monotone.antt` and `Laws/Same.antt`.
-use Rattle.std.specs.Prelude.{◌≡◌, ℕ, zero, suc, ◌*◌, ◌%◌, ◌^◌, ◌≤◌, Bool, true, false, cond, not, ◌&&◌, T, ltb, List, [], ◌∷◌, map, ℤ, negsuc, ◌==◌, nat_le, nat_lt, refl, Float}
-use Rattle.std.proofs.Common.{sym, ap, ◌∙◌, subst, inl, mul-le-mul, mul-pos, zero-lt-suc, leb→le, lt→ltb, T_not}
+use Rattle.std.specs.Prelude.{◌≡◌, ℕ, zero, suc, ◌*◌, ◌%◌, ◌^◌, ◌≤◌, Bool, true, false, cond, not, ◌&&◌, T, ltb, List, [], ◌∷◌, ℤ, negsuc, ◌==◌, nat_le, nat_lt, refl, Float}
+use Rattle.std.proofs.Common.{sym, subst, inl, mul-le-mul, mul-pos, zero-lt-suc, leb→le, lt→ltb, T_not}
 use Rattle.std.proofs.Math.Logic.{inr}
-use mathlib.Core.List.{foldl}
 use Rattle.std.proofs.Math.Dec.{not_T}
 use Rattle.std.specs.Float.{nan, inf, fin, Format, binary32, binary64}
 use Rattle.std.specs.Float.Ieee.{prec, emax, low, up, down, fits, lt, le, eq, is_nan}
@@ -18,7 +17,6 @@ use Rattle.float.specs.Laws.Nan.{Number, nan_or, lt_nan, le_number}
 use Rattle.float.specs.Laws.Compare.{lt_le, lt_not_le, not_lt_le, lt_le_trans, le_lt_trans}
 use Rattle.float.specs.Laws.Zero.{origin, zero_not_above}
 use Rattle.float.specs.Laws.Same.{Zero, same}
-use Rattle.float.specs.Laws.Order.{min_elim}
 use Rattle.float.specs.Laws.Square.{Square, times_self, plus}
 use Rattle.float.specs.Laws.Fits.{root_of_fits}
 use Rattle.float.specs.Laws.Monotone.{root_of_mono, root_above}
@@ -140,10 +138,3 @@ root_min x y s t =
 abbrev pub Squares : List Float → Type 0
 Squares [] = Unit {0}
 Squares (x ∷ xs) = Square x × Squares xs
-
-pub square_min : (x y : Float) → Square x → Square y → Square (min x y)
-square_min x y s t = min_elim x y Square (λ n. t) (λ l. t) (λ n l. s)
-
-pub root_least : (x : Float) (xs : List Float) → Square x → Squares xs → foldl min (sqrt x) (map sqrt xs) ≡ sqrt (foldl min x xs)
-root_least x [] s t = refl
-root_least x (y ∷ ys) s t = ap (λ (z : Float). foldl min z (map sqrt ys)) (root_min x y s t.0) ∙ root_least (min x y) ys (square_min x y s t.0) t.1

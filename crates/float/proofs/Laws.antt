@@ -1,0 +1,3 @@
+pub mod Minimum
+pub mod Nearest
+pub mod Order
