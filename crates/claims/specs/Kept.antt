@@ -7,7 +7,7 @@ use Rattle.laws.specs.Every.{Every, Pairwise}
 use Rattle.float.specs.Ops.{◌*ᶠ◌, ◌≥ᶠ◌}
 use Rattle.rounding.specs.Bounds.{Sized}
 use Rattle.rounding.specs.Distance.{Spaced, spaced_sym}
-use Rattle.rounding.proofs.Spacing.{spacing}
+use Rattle.rounding.proofs.SpacingApart.{spacing}
 use Rattle.glyphs.specs.declared.rect.Point.{Point}
 use Rattle.glyphs.specs.declared.rect.Rectangle.{Rectangle}
 use Rattle.glyphs.specs.Rect.{clear_of_obstacles}

@@ -16,7 +16,7 @@ use Rattle.rounding.specs.Selection.{max_case}
 use Rattle.rounding.specs.Bounds.{wider}
 use Rattle.rounding.specs.Distance.{Length, length_plus}
 use Rattle.rounding.specs.Cells.{TwoApart, two_apart}
-use Rattle.rounding.proofs.Cells.{cells_across, cells_along}
+use Rattle.rounding.proofs.CellsGap.{cells_across, cells_along}
 use Rattle.glyphs.specs.declared.rect.Point.{Point}
 use Rattle.glyphs.specs.declared.rect.Rectangle.{Rectangle}
 use Rattle.glyphs.specs.declared.bounds.Bounds.{Bounds}

@@ -1,7 +1,7 @@
 -- CELLS: two points whose computed cell numbers, floor((x - min) / cell), differ by two or more along an axis are at least the cell's size less 2 ^ -30 apart.
 -- Rests on `Casts` (floor) and `Errors`. Coordinates are 65,536 at most and a cell 2 ^ -20 to 65,536: a spacing is 2 ^ -20 to 34,816, so no number saturates.
 use Rattle.std.specs.Prelude.{◌≡◌, refl, Bool, true, false, ℕ, ◌+◌, ◌*◌, ◌≤◌, ◌<◌, Float}
-use Rattle.std.proofs.Common.{ap, ◌∙◌, subst, inl, inr, le_of_mul-le-mul_right, mul-le-mul_right, arith, lit<}
+use Rattle.std.proofs.Common.{ap, ◌∙◌, subst, le_of_mul-le-mul_right, mul-le-mul_right, arith, lit<}
 use Rattle.std.specs.Float.Ieee.{unlike}
 use Rattle.float.specs.Ops.{◌-ᶠ◌}
 use Rattle.float.specs.Whole.{floor}
@@ -13,8 +13,8 @@ use Rattle.rounding.specs.Bounds.{Sized}
 use Rattle.rounding.proofs.Bounds.{sub_sized, div_sized}
 use Rattle.rounding.specs.Integers.{int, below, above}
 use Rattle.rounding.specs.Casts.{IsFloor, floor_i64}
-use Rattle.rounding.specs.Distance.{Length, length_above, length_plus, tiny, tiny_is, tiny_big, gap, gap_of_lem, gap_sym, Spaced, spaced_across, spaced_along}
-use Rattle.rounding.specs.Cells.{TwoApart, cell_of, ratio}
+use Rattle.rounding.specs.Distance.{Length, length_above, length_plus, tiny, tiny_is, tiny_big}
+use Rattle.rounding.specs.Cells.{cell_of, ratio}
 
 -- ---- numbers only: places X and X', M the least of them; computed differences A and A'; computed quotients Q and Q' by C. e stands for E, u for U, t for 2 ^ -30
 quotients : (e u C k ap an bp bn qp qn rp rn : ℕ) → 0 < u → qp + u + rn ≤ rp + qn → ap * u * e + qn * C * e ≤ qp * C * e + an * u * e + u * k → rp * C * e + bn * u * e ≤ bp * u * e + rn * C * e + u * k
@@ -80,15 +80,3 @@ cells_apart x x' min cell X X' M c h =
   where
     step : (a b Q Q' : Exact) (u : ℕ) → a ⊕ nat 2 ≼ b → Q ≺ a ⊗ nat u ⊕ nat u → b ⊗ nat u ≼ Q' → Q ⊕ nat u ≼ Q'
     step a b Q Q' u h p q = omega (arith, p, q, mul-le-mul_right u h)
-
-cells_gap : (x x' min cell : Float) → Sized x 65536 → Sized x' 65536 → Sized min 65536 → Length cell → TwoApart (cell_of x min cell) (cell_of x' min cell) → mag cell ≤ gap x x' + tiny
-unfolding TwoApart
-cells_gap x x' min cell X X' M c (inl h) = gap_of_lem x x' (mag cell) tiny (cells_apart x x' min cell X X' M c h)
-cells_gap x x' min cell X X' M c (inr h) = rw (gap_sym x x') (gap_of_lem x' x (mag cell) tiny (cells_apart x' x min cell X' X M c h))
-
-module _ (cell x y x' y' : Float) (c : Length cell) (X : Sized x 65536) (Y : Sized y 65536) (X' : Sized x' 65536) (Y' : Sized y' 65536) where
-  pub cells_across : (min : Float) → Sized min 65536 → TwoApart (cell_of x min cell) (cell_of x' min cell) → Spaced cell x y x' y'
-  cells_across min M h = spaced_across cell x y x' y' (cells_gap x x' min cell X X' M c h)
-
-  pub cells_along : (min : Float) → Sized min 65536 → TwoApart (cell_of y min cell) (cell_of y' min cell) → Spaced cell x y x' y'
-  cells_along min M h = spaced_along cell x y x' y' (cells_gap y y' min cell Y Y' M c h)

@@ -26,9 +26,9 @@ use Rattle.rounding.proofs.Sqrt.{sqrt_near}
 use Rattle.rounding.specs.Distance.{Length, Spaced}
 use Rattle.rounding.proofs.Lengths.{coordinate_sized, spacing_length}
 use Rattle.rounding.specs.Spacing.{computed}
-use Rattle.rounding.proofs.Spacing.{spacing}
+use Rattle.rounding.proofs.SpacingApart.{spacing}
 use Rattle.rounding.specs.Cells.{cell_of, TwoApart}
-use Rattle.rounding.proofs.Cells.{cells_across}
+use Rattle.rounding.proofs.CellsGap.{cells_across}
 use Rattle.rounding.specs.Row.{hex_row, length_step, two_num}
 use Rattle.rounding.specs.Steps.{Reach, across, along, offset}
 use Rattle.rounding.specs.Lattice.{odd}

@@ -17,3 +17,7 @@ pub mod Sqrt
 pub mod Steps
 pub mod Walk
 pub mod Whole
+pub mod CellsGap
+pub mod RootNear
+pub mod Rounds
+pub mod SpacingApart

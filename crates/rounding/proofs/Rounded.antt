@@ -9,7 +9,7 @@ use Rattle.std.specs.Float.Ieee.Order.{round_mono}
 use Rattle.std.specs.Float.Ieee.Scale.{overflow, finite}
 use Rattle.laws.specs.Orders.{lt_or_le}
 use Rattle.rounding.specs.Relative.{Near}
-use Rattle.rounding.proofs.Nearest.{rounds, rounds_whole}
+use Rattle.rounding.proofs.Rounds.{rounds, rounds_whole}
 use Rattle.rounding.specs.Value.{U, U_pos, E, H, mag, Digits}
 use Rattle.rounding.specs.Rounded.{Made, Rounded, RoundedUnits, made, not_above, of_value, ordered, round_mag, under}
 

@@ -8,7 +8,7 @@ use Rattle.rounding.specs.Value.{U, E, mag, Digits, digits_whole}
 use Rattle.rounding.specs.Signs.{Nonneg}
 use Rattle.rounding.specs.Bounds.{Sized}
 use Rattle.rounding.specs.Root.{root, NearRoot, root_least, root_most}
-use Rattle.rounding.proofs.Root.{near_root_full}
+use Rattle.rounding.proofs.RootNear.{near_root_full}
 use Rattle.rounding.specs.Sqrt.{Rooted, root_zero, sqrt_law}
 
 -- ---- what follows
