@@ -1,17 +1,16 @@
 -- The deepest point of a job's piece, and where an anchor escapes to, lie within the reach of the rounding laws.
 -- Rests on both being inside the piece: an exit is taken only where its clearance is the inset.
-use Rattle.std.specs.Prelude.{Bool, not, cond, ◌||◌, ℕ, eqb, length}
+use Rattle.std.specs.Prelude.{◌||◌}
+use Rattle.std.specs.Prelude.{Bool, not, cond, eqb, length}
 use Rattle.std.proofs.Math.Bool.{true, false}
 use mathlib.Core.List.{List, [], ◌∷◌, foldl}
 use Rattle.std.proofs.Math.Dec.{T}
-use Rattle.std.proofs.Common.{lit≤}
 use Rattle.std.specs.Float.Ieee.{Float, binary64}
 use Rattle.std.specs.Float.Ieee.Fits.{add-fits, sub-fits}
 use Rattle.laws.specs.Every.{Every}
 use Rattle.float.specs.Ops.{◌+ᶠ◌, ◌*ᶠ◌, ◌<ᶠ◌, ◌≤ᶠ◌, 1ᶠ}
 use Rattle.float.specs.Laws.Nan.{Number}
 use Rattle.float.specs.Laws.Compare.{not_lt_le}
-use Rattle.rounding.specs.Bounds.{wider}
 use Rattle.glyphs.specs.declared.rect.Point.{Point}
 use Rattle.glyphs.specs.declared.rect.Rectangle.{Rectangle}
 use Rattle.glyphs.specs.Rect.{clear_of_obstacles}
@@ -20,28 +19,17 @@ use Rattle.regions.specs.Clearance.{signed_clearance}
 use Rattle.regions.specs.Facts.{clearance_number}
 use Rattle.deepest.specs.declared.search.Deepest.{Deepest}
 use Rattle.deepest.specs.declared.search.Deepest.TheVariants.{Found, Nothing, Full}
-use Rattle.deepest.specs.Deepest.{poi_with_holes}
 use Rattle.lattice.specs.declared.escape.Best.{Best as Exit}
 use Rattle.lattice.specs.declared.escape.Best.TheVariants.{Nothing as NoExit, Found as ExitAt}
 use Rattle.lattice.specs.Escape.{point, squared_distance, 1e-9ᶠ, better, exits, consider, or_anchor, best_exit, escape_obstacles}
 use Rattle.lattice.specs.Uniform.{anchor_of}
-use Rattle.format.specs.Known.{PieceKnown}
 use Rattle.claims.specs.Kept.{Fits, Stands, Sited}
-use Rattle.claims.specs.Deepest.{OfFound, Deep, poi_deep}
 
 -- ---- the deepest point of one piece
 abbrev pub SitedAt : Deepest → Type 0
 SitedAt Nothing = Unit {0}
 SitedAt Full = Unit {0}
 SitedAt (Found x y d) = Sited (point x y)
-
-pub deepest_sited : (room : ℕ) (precision : Float) (piece : Piece) → PieceKnown piece → SitedAt (poi_with_holes room precision (piece ∷ []))
-deepest_sited room precision piece k = go (poi_with_holes room precision (piece ∷ [])) (poi_deep room precision (piece ∷ []) (k, tt))
-  where
-    go : (d : Deepest) → OfFound Deep d → SitedAt d
-    go Nothing h = tt
-    go Full h = tt
-    go (Found x y d) h = record { across = wider (lit≤ tt) h.placed.across; along = wider (lit≤ tt) h.placed.along }
 
 -- ---- escapes
 abbrev ExitSited : Exit → Type 0

@@ -15,10 +15,6 @@ use Rattle.laws.specs.Truth.{yes}
 use Rattle.format.specs.Numbers.{uint, bytes, item, coord_in}
 use Rattle.format.specs.RowLaws.{passed, both, row_has, row_lacks, last_true, last_false, sets_append}
 
-pub uint_next : (n : ℕ) (s : List ℕ) (at : ℕ) → uint (n + 1) s at ≡ uint n s at * 256 + get_or s (at + n) 0
-unfolding uint
-uint_next n s at = rw add-one
-
 -- one digit more
 pub digit_room : (n v b : ℕ) → n < 8 → v < 256 ^ n → b < 256 → (v * 256 + b < 256 ^ (n + 1)) × (v * 256 + b < 2 ^ 64)
 digit_room n v b h l d =

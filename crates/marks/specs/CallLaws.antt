@@ -8,7 +8,7 @@ use Rattle.job.specs.Job.{job_of, items_fault}
 use Rattle.job.specs.Known.{job_known}
 use Rattle.job.specs.Plan.{number_of, placements_of, Plan, given, refused, plan_of}
 use Rattle.claims.specs.Claim.{SheetKept}
-use Rattle.claims.specs.EverySheet.{every_sheet_kept}
+use Rattle.claims.proofs.EverySheet.{every_sheet_kept}
 use Rattle.marks.specs.Call.{planned}
 use Rattle.marks.specs.Room.{sheet_short, room_small}
 use Rattle.marks.specs.Trials.{few_trials}

@@ -49,7 +49,7 @@ use Rattle.discs.specs.Floor.{row_of, row_is_left_in, past_row, pack_handed, sta
 use Rattle.claims.specs.Counts.{taken_count, scattered_count, thrown_count}
 use Rattle.claims.specs.HandOut.{assigned_sum}
 use Rattle.claims.specs.HandOut as HandOut
-use Rattle.claims.specs.Portions.{zone_sum}
+use Rattle.claims.proofs.Portions.{zone_sum}
 use Rattle.plan.specs.Walk.{never}
 use Rattle.plan.specs.Rows.{past_piece}
 use Rattle.plan.specs.Placing.{place_for, Fair}

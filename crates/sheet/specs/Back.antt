@@ -13,7 +13,8 @@ use Rattle.format.specs.Rows.{each}
 use Rattle.format.specs.Numbers.{u8, u16, bytes, float_at, float_bytes}
 use Rattle.format.specs.NumberLaws.{length_bytes}
 use Rattle.format.specs.RowLaws.{behind}
-use Rattle.format.specs.Back.{uint_back, float_back, length_float}
+use Rattle.format.specs.Back.{length_float}
+use Rattle.format.proofs.Back.{uint_back, float_back}
 use Rattle.sheet.specs.Sheet.{Placement, Sheet, zone_head, placement_bytes, sheet_head, sheet_of, next_float, placed_at, placement_end, placement, read_sheet}
 
 -- ---- what a sheet can hold

@@ -3,7 +3,8 @@
 use mathlib.Core.Path.{◌≡◌, refl}
 use native.Mathlib.Omega.{arith}
 use Rattle.format.specs.Numbers.{uint}
-use Rattle.format.specs.NumberLaws.{uint_next, digit_room}
+use Rattle.format.specs.NumberLaws.{digit_room}
+use Rattle.format.proofs.NumberLaws.{uint_next}
 use Rattle.format.proofs.numbers.uint.Goals as goal
 
 pub loop-i-init : goal.loop-i-init

@@ -2,7 +2,7 @@
 -- Rests on what the layer's `plan` ensures, and on the theorem of `claims`.
 use mathlib.Core.Path.{◌≡◌, sym, ap, ◌∙◌}
 use Rattle.job.specs.Plan.{plan_of}
-use Rattle.claims.specs.EverySheet.{every_sheet_kept}
+use Rattle.claims.proofs.EverySheet.{every_sheet_kept}
 use Rattle.plan.specs.declared.answer.Answer.{Answer}
 use Rattle.marks.specs.CallLaws.{planned_sheet, planned_refused}
 use Rattle.marks.proofs.call.plan.Goals as goal

@@ -27,7 +27,8 @@ use Rattle.discs.specs.Region.{Zone, areas, quotas}
 use Rattle.format.specs.Known.{All, PieceKnown}
 use Rattle.claims.specs.HandOut.{assigned_sum}
 use Rattle.claims.specs.HandOut as HandOut
-use Rattle.claims.specs.Fair.{Weighed, Fair, member, quotas_sum, quotas_fair}
+use Rattle.claims.specs.Fair.{Weighed, Fair, member}
+use Rattle.claims.proofs.Fair.{quotas_sum, quotas_fair}
 use Rattle.claims.specs.Areas.{areas_known, total_finite}
 
 -- ---- all to the first

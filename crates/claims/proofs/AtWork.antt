@@ -14,7 +14,7 @@ use Rattle.job.specs.Job.{zones_room, sheet_room, sheet_fault}
 use Rattle.discs.specs.Searches.{starts_deepest, is_searched, searched, searches_in, had_room}
 use Rattle.job.specs.Plan.{search_fault, low_fault, ceiling_of, ceiling_fault, number_of, given, plan_of}
 use Rattle.claims.specs.Claim.{Inset, Away, FarApart, PieceKept, ZoneKept, Zones, SheetKept}
-use Rattle.claims.specs.EverySheet.{every_sheet_kept}
+use Rattle.claims.proofs.EverySheet.{every_sheet_kept}
 use Rattle.claims.specs.Example.{job, lent, read, options, square, said, says, corner, pillar, ctx, one, other, shared, kept_near, placed, pillars, found, inset_is, spacing_is}
 
 -- ---- it is accepted

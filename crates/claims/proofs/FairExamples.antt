@@ -7,8 +7,10 @@ use Rattle.float.specs.Ops.{literal, 1ᶠ, ∞}
 use Rattle.rounding.specs.Value.{sgn, mag}
 use Rattle.rounding.specs.Shares.{Weight, none, more, sum}
 use Rattle.glyphs.specs.Apportion.{total, assigned, apportion}
-use Rattle.claims.specs.Fair.{Weighed, Fair, quotas_sum, quotas_fair}
-use Rattle.claims.specs.Unshared.{Masses, one_each_sum, infinite_weight}
+use Rattle.claims.specs.Fair.{Weighed, Fair}
+use Rattle.claims.proofs.Fair.{quotas_sum, quotas_fair}
+use Rattle.claims.specs.Unshared.{Masses, infinite_weight}
+use Rattle.claims.proofs.Unshared.{one_each_sum}
 use Rattle.claims.specs.Unshared as Unshared
 
 -- 0.1, 0.2 and 0.3

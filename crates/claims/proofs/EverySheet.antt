@@ -29,11 +29,13 @@ use Rattle.job.specs.Known.{ZoneKnown, marks_of, JobKnown, job_known}
 use Rattle.relax.specs.Scatter.{source}
 use Rattle.job.specs.Plan.{room, least_ceiling, low_fault, ceiling_of, search_fault, ceiling_fault, number_of, placements_of, placement_of, sheet_for, Plan, given, refused, plan_of}
 use Rattle.claims.specs.Claim.{pillars_of, SheetKept}
-use Rattle.claims.specs.Ceilings.{Top, ceiling_known}
+use Rattle.claims.specs.Ceilings.{Top}
+use Rattle.claims.proofs.Ceilings.{ceiling_known}
 use Rattle.claims.specs.Chosen.{High, TopKnown}
-use Rattle.claims.specs.Entries.{all_writable, zones_kept}
+use Rattle.claims.proofs.Entries.{all_writable, zones_kept}
 use Rattle.claims.specs.Measured.{boundary_gap_lem}
-use Rattle.claims.specs.Placings.{LeftIn, placements_kept}
+use Rattle.claims.specs.Placings.{LeftIn}
+use Rattle.claims.proofs.Placings.{placements_kept}
 
 -- ---- the zones left in
 left_in : (zones : List Zone) → All ZoneKnown zones → marks_of zones ≤ 2000 → Every LeftIn (work_of zones)

@@ -37,9 +37,10 @@ use Rattle.format.specs.Known.{All, PieceKnown}
 use Rattle.claims.specs.Claim.{Exact, Inset, Away, FarApart, PieceKept, context, OwnPieces}
 use Rattle.claims.specs.Kept.{Unblocked, Stands, Kept, pairwise_by, Apart}
 use Rattle.claims.specs.Measures.{Measures}
-use Rattle.claims.specs.Starts.{SitedAt, deepest_sited, escape_sited, anchor_sited}
+use Rattle.claims.specs.Starts.{SitedAt, escape_sited, anchor_sited}
+use Rattle.claims.proofs.Starts.{deepest_sited}
 use Rattle.claims.specs.Thrown.{AnchorFits}
-use Rattle.claims.specs.Lattices.{lattice_kept, lattice_count}
+use Rattle.claims.proofs.Lattices.{lattice_kept, lattice_count}
 use Rattle.claims.specs.Scattered.{scatter_kept, scatter_count}
 use Rattle.claims.specs.Darts.{darts_kept, darts_count}
 

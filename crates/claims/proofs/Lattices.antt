@@ -1,6 +1,7 @@
 -- What the lattice packer places in a piece keeps what is claimed of it.
 -- Rests on `Walk` and `Apart`: the anchor and the box are within reach, and so is each spacing tried, none of which is below the least.
-use Rattle.std.specs.Prelude.{◌≡◌, Bool, true, false, cond, ◌&&◌, ◌||◌, ℕ, ◌≤◌, T, leb, ltb, length, take, Float}
+use Rattle.std.specs.Prelude.{◌||◌}
+use Rattle.std.specs.Prelude.{◌≡◌, Bool, true, false, cond, ◌&&◌, ℕ, ◌≤◌, T, leb, ltb, length, take, Float}
 use Rattle.std.proofs.Common.{subst, arith}
 use Rattle.std.proofs.Math.Bool.{not}
 use mathlib.Core.List.{List, [], ◌∷◌, ◌++◌, foldr}
@@ -26,7 +27,8 @@ use Rattle.lattice.specs.Lattice.{HexCells, no_cells, Cap, never, at, i64_as_f64
 use Rattle.lattice.specs.Uniform.{available, cells_at, spread_cells, pack_lattice}
 use Rattle.claims.specs.Kept.{Unblocked, Fits, Kept, honor_kept, kept_by, Apart, apart_sym}
 use Rattle.claims.specs.Measures.{BoxSized, Measures}
-use Rattle.claims.specs.Widened.{Widened, widened, apart_less}
+use Rattle.claims.specs.Widened.{Widened, apart_less}
+use Rattle.claims.proofs.Widened.{widened}
 use Rattle.claims.specs.Whole.{every_through}
 use Rattle.claims.specs.Apart.{walk_apart}
 use Rattle.claims.specs.Walk.{Sound, no_cells_lem, walked, taken_inset, taken_apart, taken_clear}

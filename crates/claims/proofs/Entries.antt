@@ -18,7 +18,7 @@ use Rattle.job.specs.Plan.{placement_of}
 use Rattle.claims.specs.Claim.{Exact, OwnPieces, ZoneKept, Zones}
 use Rattle.claims.specs.HandOut.{sum, assigned_sum}
 use Rattle.claims.specs.Areas.{areas_known}
-use Rattle.claims.specs.Portions.{zone_sum, zone_fair}
+use Rattle.claims.proofs.Portions.{zone_sum, zone_fair}
 use Rattle.claims.specs.Placings.{LeftIn}
 
 exact_fit : (ps : List Point) → Every Exact ps → AllFit (flat ps)
