@@ -22,10 +22,11 @@ use Rattle.discs.specs.PlaceGlyphs.{Placed, is_left_in, work_of}
 use Rattle.format.specs.RowLaws.{both, passed}
 use Rattle.format.specs.Known.{All, PieceKnown}
 use Rattle.sheet.specs.Sheet.{sheet_of}
-use Rattle.sheet.specs.Back.{WritableSheet, sheet_back}
+use Rattle.sheet.proofs.Back.{WritableSheet, sheet_back}
 use Rattle.job.specs.Head.{lent_fault, work_fault}
 use Rattle.job.specs.Job.{Job, job_of, items_fault, sheet_fault}
-use Rattle.job.specs.Known.{ZoneKnown, marks_of, JobKnown, job_known}
+use Rattle.job.specs.Known.{ZoneKnown, marks_of, JobKnown}
+use Rattle.job.proofs.Known.{job_known}
 use Rattle.relax.specs.Scatter.{source}
 use Rattle.job.specs.Plan.{room, least_ceiling, low_fault, ceiling_of, search_fault, ceiling_fault, number_of, placements_of, placement_of, sheet_for, Plan, given, refused, plan_of}
 use Rattle.claims.specs.Claim.{pillars_of, SheetKept}

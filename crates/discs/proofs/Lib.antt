@@ -3,3 +3,5 @@ mod Turns
 mod Written
 mod Zones
 mod Halving
+pub mod FloorLaws
+pub mod PieceLaws

@@ -1,1 +1,4 @@
 pub mod Flat
+pub mod Examples
+pub mod Known
+pub mod ZoneLaws

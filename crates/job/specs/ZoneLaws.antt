@@ -9,7 +9,7 @@ use Rattle.format.specs.RowLaws.{both, passed, length_each}
 use Rattle.format.specs.NumberLaws.{item_passed, next_byte_lem}
 use Rattle.format.specs.Pieces.{piece_end}
 use Rattle.format.specs.PieceLaws.{few_rings_each}
-use Rattle.job.specs.Zones.{Place, letter_fault, next_byte, above, key_fault, counts_fault, count_at, marks_at, pieces_at, key_at, zone_end, zone_next, opening_fault, zone_fault, zone_sizes, zone_rings, zone_row}
+use Rattle.job.specs.Zones.{Place, letter_fault, next_byte, above, key_fault, counts_fault, count_at, pieces_at, opening_fault, zone_fault, zone_sizes, zone_rings, zone_row}
 
 -- ---- what has no fault is whole
 
@@ -74,14 +74,6 @@ zone_few s z e =
 pub length_row : (s : List ℕ) (at : ℕ) → length (zone_row s at) ≡ 4
 unfolding zone_row
 length_row s at = refl
-
--- ---- the next place, by its parts
-
-pub next_place :
-    (s : List ℕ) (z : Place) (at key len marks : ℕ) → at ≡ zone_end s z.at → key ≡ z.at + 1 → len ≡ u8 s z.at → marks ≡ z.marks + marks_at s z.at
-    → ◌≡◌ {A = Place} (record { at = at; last = take len (drop key s); marks = marks }) (zone_next s z)
-unfolding zone_next key_at
-next_place s z at key len marks a k l m = rw (a, k, l, m)
 
 -- ---- one turn of a comparison of keys
 

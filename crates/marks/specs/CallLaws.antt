@@ -5,7 +5,7 @@ use Rattle.std.proofs.Common.{arith, eqb-true, eq-eqb, ne_eqb}
 use Rattle.format.specs.RowLaws.{both}
 use Rattle.job.specs.Head.{lent_fault, work_fault}
 use Rattle.job.specs.Job.{job_of, items_fault}
-use Rattle.job.specs.Known.{job_known}
+use Rattle.job.proofs.Known.{job_known}
 use Rattle.job.specs.Plan.{number_of, placements_of, Plan, given, refused, plan_of}
 use Rattle.claims.specs.Claim.{SheetKept}
 use Rattle.claims.proofs.EverySheet.{every_sheet_kept}

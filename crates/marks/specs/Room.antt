@@ -14,7 +14,8 @@ use Rattle.discs.specs.Region.{Zone, quotas}
 use Rattle.discs.specs.PlaceGlyphs.{Placed, is_left_in, work_of}
 use Rattle.format.specs.Known.{All}
 use Rattle.sheet.specs.Sheet.{Placement, placement_bytes, sheet_of}
-use Rattle.sheet.specs.Back.{length_placement, length_sheet_head}
+use Rattle.sheet.specs.Back.{length_sheet_head}
+use Rattle.sheet.proofs.Back.{length_placement}
 use Rattle.job.specs.Job.{Job, job_of, zones_room, sheet_room}
 use Rattle.job.specs.Known.{ZoneKnown, marks_of, JobKnown}
 use Rattle.job.specs.Plan.{placements_of, placement_of, sheet_for}

@@ -10,8 +10,8 @@ use Rattle.glyphs.specs.Spots.{flat}
 use Rattle.glyphs.specs.declared.rect.Rectangle.{Rectangle}
 use Rattle.format.specs.Numbers.{float_bytes}
 use Rattle.sheet.specs.Sheet.{Placement, zone_head, placement_bytes}
-use Rattle.sheet.specs.Back.{length_placement}
-use Rattle.sheet.specs.Laws.{put_placement}
+use Rattle.sheet.proofs.Back.{length_placement}
+use Rattle.sheet.proofs.Laws.{put_placement}
 use Rattle.discs.specs.declared.options.GlyphOptions.{GlyphOptions}
 use Rattle.discs.specs.declared.radius.Sizing.{Sizing}
 use Rattle.discs.specs.declared.rows.Row.{Row}

@@ -17,7 +17,8 @@ use Rattle.discs.specs.Radius.{context_at}
 use Rattle.discs.specs.PlaceGlyphs.{Placed, is_left_in, work_of, pack}
 use Rattle.discs.specs.Searches.{had_room}
 use Rattle.discs.specs.Floor.{row_of, past_row}
-use Rattle.discs.specs.FloorLaws.{OwnPacking, pack_own}
+use Rattle.discs.specs.FloorLaws.{OwnPacking}
+use Rattle.discs.proofs.FloorLaws.{pack_own}
 use Rattle.relax.specs.Scatter.{source}
 use Rattle.job.specs.Plan.{placement_of}
 use Rattle.plan.specs.Rows.{flat_rows}

@@ -19,7 +19,7 @@ use Rattle.discs.specs.Floor.{row_of, past_row, start}
 use Rattle.job.specs.Zones.{zone, zone_end}
 use Rattle.job.specs.Job.{Job, zones_at, zones, items_fault, job_of, coords_of, sizes_of, rings_of, rows_of}
 use Rattle.job.specs.Rows.{rows_are}
-use Rattle.job.specs.Known.{job_known}
+use Rattle.job.proofs.Known.{job_known}
 use Rattle.job.specs.Plan.{search_fault}
 use Rattle.plan.specs.Found.{found_for, found_in}
 use Rattle.plan.specs.Rows.{flat_rows, all_rows, found_at, fits_at, threes_at}

@@ -10,7 +10,7 @@ use Rattle.laws.specs.Lists.{written}
 use Rattle.glyphs.specs.declared.rect.Rectangle.{Rectangle}
 use Rattle.sheet.specs.Sheet.{Placement, placement_bytes, sheet_head, sheet_of}
 use Rattle.sheet.specs.Back.{length_sheet_head}
-use Rattle.sheet.specs.Laws.{put_sheet}
+use Rattle.sheet.proofs.Laws.{put_sheet}
 use Rattle.discs.specs.declared.options.GlyphOptions.{GlyphOptions}
 use Rattle.discs.specs.declared.radius.Sizing.{Sizing}
 use Rattle.discs.specs.declared.rows.Offsets.{Offsets}

@@ -1,15 +1,15 @@
 -- The scope's worked sheet: its 37 bytes, and what they say.
 -- Assumes nothing.
 use Rattle.std.specs.Prelude.{◌≡◌, refl, ℕ}
-use mathlib.Core.List.{List, [], ◌∷◌, flat_map}
-use Rattle.std.specs.Float.Ieee.{to_bits, of_bits}
+use mathlib.Core.List.{List, [], ◌∷◌}
+use Rattle.std.specs.Float.Ieee.{of_bits}
 use Rattle.float.specs.Ops.{literal, 1ᶠ}
 use Rattle.format.specs.Rows.{each}
-use Rattle.format.specs.Numbers.{uint, bytes, float_at, float_bytes}
-use Rattle.sheet.specs.Sheet.{Sheet, zone_head, placement_bytes, sheet_head, sheet_of, placed_at, placement_end, placement, read_sheet}
+use Rattle.format.specs.Numbers.{uint, float_at}
+use Rattle.sheet.specs.Sheet.{Sheet, placed_at, placement_end, placement, read_sheet}
 
 -- radius 1; zone A, one mark placed at (5, 5), none unplaced
-worked : Sheet
+pub worked : Sheet
 worked =
     record {
       radius = 1ᶠ;
@@ -17,7 +17,7 @@ worked =
     }
 
 -- length, version, radius, zones, key, placed, unplaced, x, y
-worked_bytes : List ℕ
+pub worked_bytes : List ℕ
 worked_bytes =
     0x00 ∷ 0x00 ∷ 0x00 ∷ 0x21
     ∷ 0x01
@@ -29,10 +29,6 @@ worked_bytes =
     ∷ 0x40 ∷ 0x14 ∷ 0x00 ∷ 0x00 ∷ 0x00 ∷ 0x00 ∷ 0x00 ∷ 0x00
     ∷ 0x40 ∷ 0x14 ∷ 0x00 ∷ 0x00 ∷ 0x00 ∷ 0x00 ∷ 0x00 ∷ 0x00
     ∷ []
-
-worked_written : sheet_of worked ≡ worked_bytes
-unfolding worked worked_bytes sheet_of sheet_head placement_bytes zone_head bytes float_bytes flat_map to_bits of_bits
-worked_written = refl
 
 worked_read : read_sheet worked_bytes ≡ worked
 unfolding worked worked_bytes read_sheet placement placed_at placement_end each uint float_at of_bits

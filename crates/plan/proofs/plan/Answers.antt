@@ -4,7 +4,8 @@ use mathlib.Core.Path.{sym, ◌∙◌}
 use lib.ListN.{length}
 use lib.Seq.{length-take-le}
 use Rattle.float.specs.Ops.{0ᶠ}
-use Rattle.plan.specs.CallLaws.{work_long, still_long, front_count, cleared_at, ends_lent, ends_work, ends_cleared}
+use Rattle.plan.specs.CallLaws.{work_long, still_long, front_count, cleared_at}
+use Rattle.plan.proofs.CallLaws.{ends_lent, ends_work, ends_cleared}
 use Rattle.plan.proofs.plan.Goals as goal
 
 pub returns-then-fault-ne0 : goal.returns-then-fault-ne0

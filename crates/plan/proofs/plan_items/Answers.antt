@@ -5,7 +5,8 @@ use Prim.Native.Nat.{◌*◌, ◌≤◌}
 use native.Mathlib.Omega.{arith}
 use borrow.Author.Rules.{rules}
 use lib.Seq.{length-take-le}
-use Rattle.plan.specs.CallLaws.{lent_short, few_zones_lem, few_pillars, few_taken, rows_fit, read_in, short_answered, zones_answered, items_refused}
+use Rattle.plan.specs.CallLaws.{lent_short}
+use Rattle.plan.proofs.CallLaws.{few_zones_lem, few_pillars, few_taken, rows_fit, read_in, short_answered, zones_answered, items_refused}
 use Rattle.plan.proofs.plan_items.Goals as goal
 
 pub read_items-reading-requires : goal.read_items-reading-requires

@@ -12,7 +12,8 @@ use Rattle.format.specs.Pieces.{piece_fault, piece_end}
 use Rattle.format.specs.RowLaws.{rows, row_clear}
 use Rattle.job.specs.Zones.{count_at, marks_at, pieces_at, row_at, zone_fault, zone_end, zone_coords, zone_sizes, zone_rings, zone_row}
 use Rattle.job.specs.Steps.{place_of}
-use Rattle.job.specs.ZoneLaws.{opening_passed, count_at_lem, next_place}
+use Rattle.job.specs.ZoneLaws.{opening_passed, count_at_lem}
+use Rattle.job.proofs.ZoneLaws.{next_place}
 use Rattle.job.proofs.zones.zone.Goals as goal
 
 pub returns-then-fault-ne0 : goal.returns-then-fault-ne0

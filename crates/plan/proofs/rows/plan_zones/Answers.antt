@@ -4,7 +4,8 @@ use mathlib.Core.Path.{sym}
 use native.Mathlib.Omega.{arith}
 use borrow.Author.Rules.{rules}
 use lib.Seq.{length-take-le}
-use Rattle.plan.specs.Zoned.{shares_long, pillars_lend, rows_readable, refused_search, zones_floor, zones_fair, planned_zones}
+use Rattle.plan.specs.Zoned.{shares_long, pillars_lend}
+use Rattle.plan.proofs.Zoned.{rows_readable, refused_search, zones_floor, zones_fair, planned_zones}
 use Rattle.plan.proofs.rows.plan_zones.Goals as goal
 
 pub share_zones-requires : goal.share_zones-requires

@@ -17,7 +17,7 @@ use Rattle.glyphs.specs.Rect.{rectangles, obstacles_near}
 use Rattle.glyphs.specs.Spots.{flat}
 use Rattle.regions.specs.Ring.{outer, piece_of}
 use Rattle.lattice.specs.Context.{inset}
-use Rattle.scatter.specs.Darts.{few_both, no_marks, unspread, relaxed}
+use Rattle.scatter.proofs.Darts.{few_both, no_marks, unspread, relaxed}
 use Rattle.scatter.proofs.random.pack_random_piece.Goals as goal
 
 pub returns-in_default : goal.returns-in_default

@@ -9,7 +9,7 @@ use mir.Val.{bits}
 use lib.ListN.{length}
 use Rattle.glyphs.specs.Rect.{rectangles}
 use Rattle.regions.specs.Ring.{piece_of}
-use Rattle.scatter.specs.Darts.{held_end, next_glyph, no_glyph, out_of_attempts, missed, landed}
+use Rattle.scatter.proofs.Darts.{held_end, next_glyph, no_glyph, out_of_attempts, missed, landed}
 use Rattle.scatter.specs.Front.{Front, front_start}
 use Rattle.scatter.proofs.random.throw_glyphs.Goals as goal
 

@@ -6,7 +6,7 @@ use Rattle.glyphs.specs.Rect.{rectangles}
 use Rattle.regions.specs.Margin.{margin_of}
 use Rattle.regions.specs.Ring.{piece_of}
 use Rattle.lattice.specs.Around.{length_rectangles}
-use Rattle.scatter.specs.Darts.{few_first, one_pass, second_pass}
+use Rattle.scatter.proofs.Darts.{few_first, one_pass, second_pass}
 use Rattle.scatter.proofs.random.throw_passes.Goals as goal
 
 pub throw_glyphs-first-requires : goal.throw_glyphs-first-requires

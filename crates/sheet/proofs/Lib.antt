@@ -1,0 +1,3 @@
+pub mod Back
+pub mod Examples
+pub mod Laws
