@@ -10,8 +10,8 @@ use Rattle.job.specs.Head.{lent_fault, number_after, choices_fault, measures_fau
 use Rattle.job.specs.Zones.{letter, letter_fault, above, key_at, key_fault, counts_fault, count_at, zone_end, opening_fault, zone_fault, zone_next}
 use Rattle.job.specs.Job.{zones_end, zones_fault, items_fault, read_fault}
 use Rattle.job.specs.Examples.{cut, job, obstacles, options, square, worked}
-infix 20 ◌gives◌
 
+infix 20 ◌gives◌
 -- a zone without pieces
 plain : List ℕ → ℕ → List ℕ
 unfolding bytes

@@ -12,22 +12,22 @@ use Rattle.job.specs.Zones.{zone, letter, letter_fault, above, key_at, key_fault
 use Rattle.job.specs.Job.{zones, zones_end, zones_fault, items_fault, read_fault}
 
 -- the bytes of a job, whose first four are the length of the rest
-pub job : List ℕ → List ℕ
+unfoldable pub job : List ℕ → List ℕ
 unfolding bytes
 job rest = bytes 4 (length rest) ++ rest
 
 -- Uniform, BestEffort, radius 1, gap 0 followed, precision 1
-pub options : List ℕ
+unfoldable pub options : List ℕ
 unfolding bytes
 options = flat_map (bytes 1) (1 ∷ 0 ∷ 0 ∷ 1 ∷ []) ++ bytes 4 1024 ++ bytes 4 0 ++ bytes 1 0 ++ bytes 4 0 ++ bytes 4 1024 ++ bytes 4 0 ++ bytes 8 0
 
 -- n obstacles, with these numbers
-pub obstacles : ℕ → List ℕ → List ℕ
+unfoldable pub obstacles : ℕ → List ℕ → List ℕ
 unfolding bytes
 obstacles n numbers = bytes 2 n ++ flat_map (bytes 4) numbers
 
 -- zone A, count 1, one piece of one ring: the square (0,0) to (10,10)
-pub square : List ℕ
+unfoldable pub square : List ℕ
 unfolding bytes
 square =
     flat_map (bytes 1) (1 ∷ 65 ∷ [])
@@ -36,11 +36,11 @@ square =
     ++ bytes 2 4
     ++ flat_map (bytes 4) (0 ∷ 0 ∷ 10240 ∷ 0 ∷ 10240 ∷ 10240 ∷ 0 ∷ 10240 ∷ [])
 
-pub worked : List ℕ
+unfoldable pub worked : List ℕ
 unfolding bytes options obstacles square
 worked = options ++ obstacles 0 [] ++ bytes 2 1 ++ square
 
-pub cut : ℕ → List ℕ
+unfoldable pub cut : ℕ → List ℕ
 unfolding worked
 cut n = job (take (n - 4) worked)
 

@@ -9,7 +9,7 @@ use Rattle.format.specs.Numbers.{uint, float_at}
 use Rattle.sheet.specs.Sheet.{Sheet, placed_at, placement_end, placement, read_sheet}
 
 -- radius 1; zone A, one mark placed at (5, 5), none unplaced
-pub worked : Sheet
+unfoldable pub worked : Sheet
 worked =
     record {
       radius = 1ᶠ;
@@ -17,7 +17,7 @@ worked =
     }
 
 -- length, version, radius, zones, key, placed, unplaced, x, y
-pub worked_bytes : List ℕ
+unfoldable pub worked_bytes : List ℕ
 worked_bytes =
     0x00 ∷ 0x00 ∷ 0x00 ∷ 0x21
     ∷ 0x01
