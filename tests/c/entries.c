@@ -19,7 +19,7 @@ static int bits_are(double x, uint64_t bits) {
     return b == bits;
 }
 
-/* The scope's worked job and its sheet, and refusals for what is lent. */
+/* The worked job of README.md and its sheet, and refusals for what is lent. */
 static void expect_plans(void) {
     static const uint8_t job[81] = {[3] = 0x4d, [4] = 1, [7] = 1, [10] = 4, [23] = 4, [40] = 1, [41] = 1, [42] = 'A',
         [44] = 1, [45] = 1, [46] = 1, [48] = 4, [59] = 0x28, [67] = 0x28, [71] = 0x28, [79] = 0x28};

@@ -36,7 +36,7 @@ uint64_t probe_count_clear(PIECE, const double *places, size_t place_floats, dou
 /* regions.rs point_in_polygon: 1 inside, 0 not. */
 uint8_t probe_point_in_polygon(const double *ring, size_t floats, double x, double y);
 
-/* regions.rs RegionPiece::area, with 01's stand-in. */
+/* regions.rs RegionPiece::area, 0 where it comes out below 0. */
 double probe_area(PIECE);
 
 /* glyphs.rs ring_bounds: 1 with min x, max x, min y, max y; 0 without bounds,

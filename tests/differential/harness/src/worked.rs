@@ -1,4 +1,4 @@
-//! Document 01's worked example and its empty input, and the key check.
+//! The worked example of README.md, the empty input, and the key check.
 
 use oracle::judge::{Lent, Outcome, answer, key_of};
 

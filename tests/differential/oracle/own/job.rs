@@ -1,5 +1,5 @@
-//! The job reader, written from document 01 alone. A fault is the number of
-//! its refusal; the checks stand in the order in which 01 makes them.
+//! The job reader, written from the rules of the format alone. A fault is the
+//! number of its refusal; the checks stand in the order that README.md gives.
 
 pub struct Job {
     pub head: Head,

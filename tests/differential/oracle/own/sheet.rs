@@ -1,4 +1,4 @@
-//! The sheet writer, written from document 01 alone.
+//! The sheet writer, written from the rules of the format alone.
 
 pub struct ZoneSpots {
     pub key: Vec<u8>,

@@ -1,5 +1,5 @@
-//! What document 01 puts in the place of the source's float functions, heap
-//! and random stream, and the counters that the judge reads.
+//! What stands in the place of the source's float functions, heap and random
+//! stream (docs/DIFFERENCES.md), and the counters that the judge reads.
 
 use std::cell::Cell;
 use std::cmp::Ordering;

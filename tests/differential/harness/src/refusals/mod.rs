@@ -1,5 +1,5 @@
 //! Every refusal at and beside its limit. The expected numbers are written
-//! from document 01's table, 0 for a job that is given its sheet.
+//! by hand from README.md's table, 0 for a job that is given its sheet.
 
 use oracle::judge::{Lent, Outcome, answer};
 

@@ -1,5 +1,5 @@
 //! Root against the machine's; hash, radical inverse and quotas against the
-//! functions of the source. The refusals are document 01's.
+//! functions of the source. The refusals are as README.md has them.
 
 use harness::comparison::Run;
 use harness::leaf_inputs::{hashed, inverse_input, quota_input, radicand};
