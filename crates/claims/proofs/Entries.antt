@@ -14,7 +14,7 @@ use Rattle.discs.specs.declared.options.GlyphOptions.{GlyphOptions}
 use Rattle.discs.specs.Region.{quotas}
 use Rattle.discs.specs.PlaceGlyphs.{Placed}
 use Rattle.sheet.specs.Back.{AllFit}
-use Rattle.sheet.proofs.Back.{Writable, AllWritable}
+use Rattle.sheet.specs.Back.{Writable, AllWritable}
 use Rattle.job.specs.Plan.{placement_of}
 use Rattle.claims.specs.Claim.{Exact, OwnPieces, ZoneKept, Zones}
 use Rattle.claims.specs.HandOut.{sum, assigned_sum}

@@ -22,7 +22,8 @@ use Rattle.discs.specs.PlaceGlyphs.{Placed, is_left_in, work_of}
 use Rattle.format.specs.RowLaws.{both, passed}
 use Rattle.format.specs.Known.{All, PieceKnown}
 use Rattle.sheet.specs.Sheet.{sheet_of}
-use Rattle.sheet.proofs.Back.{WritableSheet, sheet_back}
+use Rattle.sheet.specs.Back.{WritableSheet}
+use Rattle.sheet.proofs.Back.{sheet_back}
 use Rattle.job.specs.Head.{lent_fault, work_fault}
 use Rattle.job.specs.Job.{Job, job_of, items_fault, sheet_fault}
 use Rattle.job.specs.Known.{ZoneKnown, marks_of, JobKnown}

@@ -16,23 +16,7 @@ use Rattle.format.specs.RowLaws.{behind}
 use Rattle.format.specs.Back.{length_float}
 use Rattle.format.proofs.Back.{uint_back, float_back}
 use Rattle.sheet.specs.Sheet.{Placement, Sheet, zone_head, placement_bytes, sheet_head, sheet_of, next_float, placed_at, placement_end, placement, read_sheet}
-use Rattle.sheet.specs.Back.{AllFit, length_floats}
-
-pub record Writable (z : Placement) : Type 0 where
-  pub short : length z.key < 256
-  pub pairs : 2 * (length z.spots / 2) ≡ length z.spots
-  pub few : length z.spots / 2 < 65536
-  pub unplaced : z.unplaced < 65536
-  pub fit : AllFit z.spots
-
-abbrev pub AllWritable : List Placement → Type 0
-AllWritable [] = Unit {0}
-AllWritable (z ∷ zs) = Writable z × AllWritable zs
-
-pub record WritableSheet (sheet : Sheet) : Type 0 where
-  pub fit : T (fits binary64 sheet.radius)
-  pub few : length sheet.zones < 65536
-  pub zones : AllWritable sheet.zones
+use Rattle.sheet.specs.Back.{AllFit, Writable, AllWritable, WritableSheet, length_floats}
 
 pub length_zone_head : (key : List ℕ) (placed unplaced : ℕ) → length (zone_head key placed unplaced) ≡ 5 + length key
 unfolding zone_head
