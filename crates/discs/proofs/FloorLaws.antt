@@ -15,8 +15,7 @@ use Rattle.deepest.specs.declared.search.Deepest.{Deepest}
 use Rattle.deepest.specs.declared.search.Deepest.TheVariants.{Nothing}
 use Rattle.relax.specs.declared.Spreading.{Spreading}
 use Rattle.lattice.specs.declared.context.PackCtx.{PackCtx}
-use Rattle.discs.specs.Region.{Zone, quotas, deepest_of, pack_region, placed_in}
-use Rattle.discs.specs.PieceLaws.{Own}
+use Rattle.discs.specs.Region.{Zone, deepest_of, pack_region, placed_in}
 use Rattle.discs.proofs.PieceLaws.{region_own}
 use Rattle.discs.specs.Radius.{boundary_gap_of, context_at, area_of, lowered, if_positive, analytic_r_hi, probe, feasible}
 use Rattle.discs.specs.PlaceGlyphs.{size_for, sizing}
@@ -24,7 +23,7 @@ use Rattle.discs.specs.Floor.{Handed, handed_work, deepest_in, lowered_by, hande
 use Rattle.discs.specs.declared.ceiling.Chosen.{Chosen}
 use Rattle.discs.specs.declared.options.GlyphOptions.{GlyphOptions}
 use Rattle.discs.specs.declared.options.Radius.{Radius}
-use Rattle.discs.specs.FloorLaws.{work_zones, zones_of}
+use Rattle.discs.specs.FloorLaws.{OwnPoints, OwnPacking, work_zones, zones_of}
 
 module _ (room : ℕ) (options : GlyphOptions) where
   -- ---- the ceiling
@@ -42,48 +41,40 @@ module _ (room : ℕ) (options : GlyphOptions) where
   unfolding deepest_in poi_with_holes
   deepest_own pieces = deeper_fold Nothing pieces
 
-  abbrev pub OwnPoints : Handed → Type 0
-  OwnPoints h = h.deepests ≡ map (deepest_of room options) h.zone.pieces
-
   abbrev lowers : Float → Float → Zone → Float
   lowers gap r-hi zone = lowered gap zone.count r-hi (area_of zone.pieces) (poi_with_holes room options.precision zone.pieces)
 
-  lowered_own : (gap r-hi : Float) (h : Handed) → OwnPoints h → lowered_by gap r-hi h ≡ lowers gap r-hi h.zone
+  lowered_own : (gap r-hi : Float) (h : Handed) → OwnPoints room options h → lowered_by gap r-hi h ≡ lowers gap r-hi h.zone
   unfolding lowered_by
   lowered_own gap r-hi h o = rw (o, deepest_own h.zone.pieces)
 
-  fold_own : (gap r-hi : Float) (hs : List Handed) → Every OwnPoints hs → foldl (lowered_by gap) r-hi hs ≡ foldl (lowers gap) r-hi (zones_of hs)
+  fold_own : (gap r-hi : Float) (hs : List Handed) → Every (OwnPoints room options) hs → foldl (lowered_by gap) r-hi hs ≡ foldl (lowers gap) r-hi (zones_of hs)
   fold_own gap r-hi [] o = refl
   fold_own gap r-hi (h ∷ hs) o =
       fold_own gap (lowered_by gap r-hi h) hs o.1 ∙ ap (λ (x : Float). foldl (lowers gap) x (zones_of hs)) (lowered_own gap r-hi h o.0)
 
-  pub ceiling_own : (gap : Float) (hs : List Handed) → Every OwnPoints hs → handed_r_hi hs gap ≡ analytic_r_hi room (zones_of hs) gap options.precision
+  pub ceiling_own : (gap : Float) (hs : List Handed) → Every (OwnPoints room options) hs → handed_r_hi hs gap ≡ analytic_r_hi room (zones_of hs) gap options.precision
   unfolding handed_r_hi analytic_r_hi
   ceiling_own gap hs o = ap if_positive (fold_own gap ∞ hs o)
 
   -- ---- the trials
 
-  -- the quotas are the zone's own, and so is each deepest point that its packing needs
-  pub record OwnPacking (h : Handed) : Type 0 where
-    pub shares : h.quotas ≡ quotas h.zone
-    pub points : Own room options h.zone.pieces h.deepests (quotas h.zone)
-
   module _ (numbers : Spreading) where
     pub pack_own :
-        (ctx : PackCtx) (obstacles : List Rectangle) (h : Handed) → OwnPacking h
+        (ctx : PackCtx) (obstacles : List Rectangle) (h : Handed) → OwnPacking room options h
         → pack_handed numbers options ctx obstacles h ≡ pack_region room numbers options ctx obstacles h.zone
     unfolding pack_handed
     pack_own ctx obstacles h o = rw o.shares (region_own room numbers options ctx obstacles h.zone h.deepests o.points)
 
     trials_own :
-        (ctx : PackCtx) (obstacles : List Rectangle) (hs : List Handed) → Every OwnPacking hs
+        (ctx : PackCtx) (obstacles : List Rectangle) (hs : List Handed) → Every (OwnPacking room options) hs
         → all (holds_all numbers options ctx obstacles) hs ≡ all (λ (zone : Zone). nat_eq (placed_in (pack_region room numbers options ctx obstacles zone)) zone.count) (zones_of hs)
     unfolding all holds_all
     trials_own ctx obstacles [] o = refl
     trials_own ctx obstacles (h ∷ hs) o = rw (pack_own ctx obstacles h o.0, trials_own ctx obstacles hs o.1)
 
     pub feasible_own :
-        (hs : List Handed) → Every OwnPacking hs → (obstacles : List Rectangle) (r : Float)
+        (hs : List Handed) → Every (OwnPacking room options) hs → (obstacles : List Rectangle) (r : Float)
         → handed_feasible numbers options hs obstacles r ≡ feasible room numbers options (zones_of hs) obstacles r
     unfolding handed_feasible feasible
     feasible_own hs o obstacles r = trials_own (context_at options probe r) obstacles hs o
@@ -91,7 +82,7 @@ module _ (room : ℕ) (options : GlyphOptions) where
     -- ---- the size
 
     pub size_own :
-        (hs : List Handed) → Every OwnPacking hs → (obstacles : List Rectangle) (radius : Radius) (ceiling : Chosen)
+        (hs : List Handed) → Every (OwnPacking room options) hs → (obstacles : List Rectangle) (radius : Radius) (ceiling : Chosen)
         → size_for (handed_feasible numbers options hs) obstacles radius ceiling ≡ size_for (feasible room numbers options (zones_of hs)) obstacles radius ceiling
     size_own hs o obstacles radius ceiling =
         let e : handed_feasible numbers options hs ≡ feasible room numbers options (zones_of hs) =
@@ -100,7 +91,7 @@ module _ (room : ℕ) (options : GlyphOptions) where
 
     -- the radius and the trial counts of `place_glyphs`
     pub sizing_own :
-        (given : List Rectangle) (hs : List Handed) → Every OwnPacking (handed_work hs) → Every OwnPoints (handed_work hs)
+        (given : List Rectangle) (hs : List Handed) → Every (OwnPacking room options) (handed_work hs) → Every (OwnPoints room options) (handed_work hs)
         → size_for (handed_feasible numbers options (handed_work hs)) (sanitize_obstacles given) options.radius (handed_r_hi (handed_work hs) (boundary_gap_of options))
         ≡ sizing room numbers options given (zones_of hs)
     unfolding sizing

@@ -1,14 +1,27 @@
--- Where the quotas and deepest points handed in are the zones' own, the ceiling, the trials and the size are those of the source.
--- Rests on the law of one zone's packing.
+-- What it is for quotas and deepest points handed in to be the zones' own, and the zones that are left in.
+-- Rests on the definitions.
 use Rattle.std.specs.Prelude.{◌≡◌, ℕ, zero, suc, ◌+◌, Bool, true, false, cond, List, [], ◌∷◌, map, Float}
 use Rattle.std.proofs.Math.Path.{refl, ap}
 use Rattle.glyphs.specs.declared.rect.Rectangle.{Rectangle}
-use Rattle.discs.specs.Region.{Zone, quotas}
+use Rattle.discs.specs.Region.{Zone, quotas, deepest_of}
+use Rattle.discs.specs.PieceLaws.{Own}
+use Rattle.discs.specs.declared.options.GlyphOptions.{GlyphOptions}
 use Rattle.discs.specs.PlaceGlyphs.{is_left_in, work_of, size_for}
 use Rattle.discs.specs.Floor.{row_of, past_row, Handed, handed_work, EachRow, Stands, Packable}
 use Rattle.discs.specs.declared.ceiling.Chosen.{Chosen}
 use Rattle.discs.specs.declared.options.Radius.TheVariants.{Stated}
 use Rattle.discs.specs.declared.rows.Offsets.{Offsets}
+
+-- ---- what is handed in
+
+module _ (room : ℕ) (options : GlyphOptions) where
+  abbrev pub OwnPoints : Handed → Type 0
+  OwnPoints h = h.deepests ≡ map (deepest_of room options) h.zone.pieces
+
+  -- the quotas are the zone's own, and so is each deepest point that its packing needs
+  pub record OwnPacking (h : Handed) : Type 0 where
+    pub shares : h.quotas ≡ quotas h.zone
+    pub points : Own room options h.zone.pieces h.deepests (quotas h.zone)
 
 -- ---- the zones left in
 

@@ -116,7 +116,8 @@ pub fn pack_piece(
     requires { Room n sizes.now coords.now obstacles.now near.old second.old flags.old spots.old × StrictTrial ctx.mode }
     ensures { Packs ctx.mode n (pack_quota numbers options ctx (rectangles obstacles.now) found (piece_of sizes.now coords.now) n rng).placed result.count spots.new spots.old × (result.rng ≡ (pack_quota numbers options ctx (rectangles obstacles.now) found (piece_of sizes.now coords.now) n rng).rng) }
 {
-    if n == 0 {
+    let unwanted = n == 0;
+    if unwanted {
         return Taken { count: 0, rng };
     }
     let arrangement = options.arrangement;

@@ -20,8 +20,8 @@ use Rattle.discs.specs.Radius.{boundary_gap_of, analytic_r_hi, feasible}
 use Rattle.discs.specs.PlaceGlyphs.{is_left_in, work_of, size_for, sizing}
 use Rattle.discs.specs.Searches.{is_searched, searched, searches_in, had_room}
 use Rattle.discs.specs.Floor.{Handed, handed_work, handed_r_hi, handed_feasible}
-use Rattle.discs.specs.FloorLaws.{OwnPacking, zones_of, stated_any}
-use Rattle.discs.proofs.FloorLaws.{OwnPoints, ceiling_own, size_own}
+use Rattle.discs.specs.FloorLaws.{OwnPoints, OwnPacking, zones_of, stated_any}
+use Rattle.discs.proofs.FloorLaws.{ceiling_own, size_own}
 use Rattle.relax.specs.Scatter.{source}
 use Rattle.job.specs.Plan.{room, ceiling_of}
 use Rattle.plan.specs.Own.{length_quotas, found_of, own_of}

@@ -29,6 +29,7 @@ pub enum Anchor {
 }
 
 // What is tried at an index: the anchor first.
+#[tactic(auto, using(crate::specs::Passes::later, crate::specs::Passes::first))]
 fn candidate(anchor: Anchor, e: Extents, halves: &[f64], thirds: &[f64], index: usize) -> Point
     requires { Inverses halves.now thirds.now × (index < 1000000) }
     ensures { result ≡ first_or anchor index (halton_point e.min_x e.max_x e.min_y e.max_y index) }
