@@ -1,7 +1,6 @@
 -- A deepest point lies within 5,120 across and 1,024 along, and its clearance is above 0 and 1,031 at most.
 -- Rests on the search holding of every cell its own clearance, and on the bound of clearances.
-use Rattle.std.specs.Prelude.{◌||◌}
-use Rattle.std.specs.Prelude.{◌≡◌, Bool, cond, T, ltb, length, Float}
+use Rattle.std.specs.Prelude.{◌||◌, ◌≡◌, Bool, cond, T, ltb, length, Float}
 use Rattle.std.proofs.Math.Path.{refl}
 use Rattle.std.proofs.Math.Bool.{true, false}
 use mathlib.Core.List.{List, [], ◌∷◌, foldl}

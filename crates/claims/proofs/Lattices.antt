@@ -1,7 +1,6 @@
 -- What the lattice packer places in a piece keeps what is claimed of it.
 -- Rests on `Walk` and `Apart`: the anchor and the box are within reach, and so is each spacing tried, none of which is below the least.
-use Rattle.std.specs.Prelude.{◌||◌}
-use Rattle.std.specs.Prelude.{◌≡◌, Bool, true, false, cond, ◌&&◌, ℕ, ◌≤◌, T, leb, ltb, length, take, Float}
+use Rattle.std.specs.Prelude.{◌||◌, ◌≡◌, Bool, true, false, cond, ◌&&◌, ℕ, ◌≤◌, T, leb, ltb, length, take, Float}
 use Rattle.std.proofs.Common.{subst, arith}
 use Rattle.std.proofs.Math.Bool.{not}
 use mathlib.Core.List.{List, [], ◌∷◌, ◌++◌, foldr}

@@ -1,7 +1,6 @@
 -- The deepest point of a job's piece, and where an anchor escapes to, lie within the reach of the rounding laws.
 -- Rests on both being inside the piece: an exit is taken only where its clearance is the inset.
-use Rattle.std.specs.Prelude.{◌||◌}
-use Rattle.std.specs.Prelude.{Bool, not, cond, eqb, length}
+use Rattle.std.specs.Prelude.{◌||◌, Bool, not, cond, eqb, length}
 use Rattle.std.proofs.Math.Bool.{true, false}
 use mathlib.Core.List.{List, [], ◌∷◌, foldl}
 use Rattle.std.proofs.Math.Dec.{T}

@@ -1,4 +1,4 @@
--- The root at given values, each by computation: the worked cases of the scope, and the ends of the range.
+-- The root at given values, each by computation: a quarter, minus zero and 2, and the ends of the range.
 -- Assumes nothing.
 use Rattle.std.specs.Prelude.{◌≡◌, refl}
 use Rattle.std.specs.Float.{nan, binary64}
@@ -20,7 +20,7 @@ pub root_two : to_bits binary64 (sqrt 2ᶠ) ≡ 0x3ff6_a09e_667f_3bcd
 unfolding root_of of_bits to_bits
 root_two = refl
 
--- ---- beside the scope's: -1.0, the infinity, the least value, 2 ^ -1074, and the greatest
+-- ---- beside these: -1.0, the infinity, the least value, 2 ^ -1074, and the greatest
 pub root_below : sqrt (neg 1ᶠ) ≡ nan
 unfolding root_of of_bits neg
 root_below = refl

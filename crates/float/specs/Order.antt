@@ -1,4 +1,4 @@
--- `f64`'s abs, min, max, clamp, sqrt and hypot, as the scope's stand-ins have them. Definitions only.
+-- `f64`'s abs, min, max, clamp, sqrt and hypot, as docs/DIFFERENCES.md lists them. Definitions only.
 use Rattle.std.specs.Prelude.{false, cond, Float}
 use Rattle.std.specs.Float.{nan, inf, fin, binary64}
 use Rattle.std.specs.Float.Ieee.{is_nan}

@@ -1,4 +1,4 @@
-//! Functions on `f64`, and products of `u64`, that the language lacks. Each of the former is equal to the definition of
+//! Functions on `f64`, and products of `u64`, whose every bit is fixed. Each of the former is equal to the definition of
 //! its name in specs/.
 #![tactic(auto)]
 

@@ -12,8 +12,8 @@ use crate::wide::{high_mul, wrapping_mul};
 // digits down to the bit `bit`, and what is left of y is y - q * q, kept as `rest` * `bit`. A turn tries the
 // next bit: (q + bit)^2 is q^2 + (2q + bit) * bit.
 fn digit_root(m: u64) -> u64
-    requires fact_1 { 2 ^ 52 ≤ m }
-    requires fact_2 { m < 2 ^ 54 }
+    requires low { 2 ^ 52 ≤ m }
+    requires high { m < 2 ^ 54 }
     ensures { Near (m * 2 ^ 52) result }
 {
     let mut q = 0x10_0000_0000_0000u64;
@@ -56,8 +56,8 @@ fn root_guess(pattern: u64) -> f64
 // Whether r is seen to be the whole number nearest to √(m * 2^52). `rest` is (m + 2) * 2^52 - r * r where `high` and the
 // borrow are the upper half of (m + 2) * 2^52: the nearest is r where that is 2^53, give or take r.
 fn is_nearest(m: u64, r: u64) -> bool
-    requires fact_1 { m < 2 ^ 54 }
-    requires fact_2 { r < 2 ^ 54 }
+    requires digits { m < 2 ^ 54 }
+    requires root { r < 2 ^ 54 }
     ensures { T result → Near (m * 2 ^ 52) r }
 {
     let top = m + 2;
@@ -78,9 +78,9 @@ fn is_nearest(m: u64, r: u64) -> bool
 // bit of g, where it is set, is moved into m, so that the root is √(m * 2^52) * 2^(g / 2). A pattern's fields are
 // the digits and, from bit 52 on, how far they are moved. The digits are found one at a time.
 fn scaled_root(m: u64, g: u64) -> f64
-    requires fact_1 { 2 ^ 52 ≤ m }
-    requires fact_2 { m < 2 ^ 53 }
-    requires fact_3 { g < 3068 }
+    requires low { 2 ^ 52 ≤ m }
+    requires high { m < 2 ^ 53 }
+    requires places { g < 3068 }
     ensures { result ≡ nearest_root binary64 (m * 2 ^ 52 * 2 ^ g) }
 {
     f64::from_bits(g / 2 * 0x10_0000_0000_0000 + digit_root(m << (g % 2)))
@@ -88,9 +88,9 @@ fn scaled_root(m: u64, g: u64) -> f64
 
 // Whether a float with this pattern is seen to be that `f64`: its digits are the nearest.
 fn is_scaled_root(m: u64, g: u64, pattern: u64) -> bool
-    requires fact_1 { 2 ^ 52 ≤ m }
-    requires fact_2 { m < 2 ^ 53 }
-    requires fact_3 { g < 3068 }
+    requires low { 2 ^ 52 ≤ m }
+    requires high { m < 2 ^ 53 }
+    requires places { g < 3068 }
     ensures { T result → from_bits binary64 pattern ≡ nearest_root binary64 (m * 2 ^ 52 * 2 ^ g) }
 {
     let field = g / 2 * 0x10_0000_0000_0000;
@@ -107,8 +107,8 @@ fn is_scaled_root(m: u64, g: u64, pattern: u64) -> bool
 // Whether a guess is seen to be the root of a normal x above zero with the pattern `bits`. What waits for the root
 // can go on from the guess, and does not wait for this.
 fn is_root(bits: u64, guess: f64) -> bool
-    requires fact_1 { 2 ^ 52 ≤ bits }
-    requires fact_2 { bits < 0x7ff0_0000_0000_0000 }
+    requires normal { 2 ^ 52 ≤ bits }
+    requires finite { bits < 0x7ff0_0000_0000_0000 }
     ensures { T result → guess ≡ root_of binary64 (from_bits binary64 bits) }
 {
     if guess > 0.0 {
@@ -135,8 +135,8 @@ fn is_normal(x: f64) -> bool
 // The root of a finite x above zero from its bit pattern, its digits found one at a time. A pattern below 2^52 is a
 // subnormal x: its digits are moved up until they are 53.
 fn root_of(bits: u64) -> f64
-    requires fact_1 { 0 < bits }
-    requires fact_2 { bits < 0x7ff0_0000_0000_0000 }
+    requires above_zero { 0 < bits }
+    requires finite { bits < 0x7ff0_0000_0000_0000 }
     ensures { result ≡ root_of binary64 (from_bits binary64 bits) }
 {
     if bits < 0x10_0000_0000_0000 {
@@ -181,7 +181,7 @@ pub fn root(x: f64) -> f64
     unguessed_root(x)
 }
 
-// `f64::hypot`, as the scope has it.
+// `f64::hypot`: the root of the sum of squares, each step rounded once.
 pub fn hypot(a: f64, b: f64) -> f64
     ensures { result ≡ hypot a b }
 {

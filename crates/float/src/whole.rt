@@ -7,8 +7,8 @@ ghost use Rattle.float.specs.Whole.{floor, ceil, as_i64, as_usize};
 
 // The least whole number at least x, for an x that is above zero and below 2^53.
 fn whole_above(x: f64) -> u64
-    requires fact_1 { T (lt (fin false 0 (pos 0)) x) }
-    requires fact_2 { T (lt x (fin false 1 (pos 53))) }
+    requires above_zero { T (lt (fin false 0 (pos 0)) x) }
+    requires small { T (lt x (fin false 1 (pos 53))) }
     ensures { result ≡ as_usize (ceil x) }
 {
     let n = std::num::truncating_f64_to_u64(x);

@@ -4,8 +4,8 @@ ghost use Rattle.glyphs.specs.Halton.{radical_inverse};
 ghost use Rattle.glyphs.specs.Digits.{Weights};
 
 pub fn radical_inverse(index: u64, base: u64) -> f64
-    requires fact_1 { 2 ≤ base }
-    requires fact_2 { base ≤ 65536 }
+    requires base_low { 2 ≤ base }
+    requires base_high { base ≤ 65536 }
     ensures { result ≡ radical_inverse index base }
 {
     let b = base as f64;
@@ -22,9 +22,9 @@ pub fn radical_inverse(index: u64, base: u64) -> f64
 
 // Writes the weights of the digits in a base.
 pub fn put_weights(base: u64, weights: &mut [f64])
-    requires fact_1 { 2 ≤ base }
-    requires fact_2 { base ≤ 65536 }
-    requires fact_3 { 64 ≤ length weights.old }
+    requires base_low { 2 ≤ base }
+    requires base_high { base ≤ 65536 }
+    requires room { 64 ≤ length weights.old }
     ensures { Weights base weights.new }
 {
     let b = base as f64;
@@ -39,10 +39,10 @@ pub fn put_weights(base: u64, weights: &mut [f64])
 
 // `radical_inverse`, without a division of floats: an index has at most 64 digits.
 pub fn inverse_by(weights: &[f64], index: u64, base: u64) -> f64
-    requires fact_1 { 2 ≤ base }
-    requires fact_2 { base ≤ 65536 }
-    requires fact_3 { 64 ≤ length weights.now }
-    requires fact_4 { Weights base weights.now }
+    requires base_low { 2 ≤ base }
+    requires base_high { base ≤ 65536 }
+    requires room { 64 ≤ length weights.now }
+    requires weights { Weights base weights.now }
     ensures { result ≡ radical_inverse index base }
 {
     let mut value = 0.0;

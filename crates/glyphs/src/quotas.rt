@@ -53,9 +53,9 @@ fn remainder_key(n: u64, total: f64, w: f64) -> u64
 
 // 1 where index j comes before index i, else 0.
 fn before(n: u64, total: f64, weights: &[f64], j: usize, i: usize) -> u64
-    requires fact_1 { n ≤ 2 ^ 53 }
-    requires fact_2 { j < length weights.now }
-    requires fact_3 { i < length weights.now }
+    requires exact { n ≤ 2 ^ 53 }
+    requires inside_j { j < length weights.now }
+    requires inside_i { i < length weights.now }
     ensures { result ≡ if_lt (by_remainder (rems n total weights.now) j i) }
 {
     let a = remainder_key(n, total, weights[i]);
@@ -74,8 +74,8 @@ fn before(n: u64, total: f64, weights: &[f64], j: usize, i: usize) -> u64
 
 // How many indices come before index i.
 fn rank_of(n: u64, total: f64, weights: &[f64], i: usize) -> u64
-    requires fact_1 { n ≤ 2 ^ 53 }
-    requires fact_2 { i < length weights.now }
+    requires exact { n ≤ 2 ^ 53 }
+    requires inside { i < length weights.now }
     ensures { result ≡ rank (by_remainder (rems n total weights.now)) i (up_to (length weights.now)) }
 {
     let mut r = 0u64;
@@ -121,9 +121,9 @@ fn first_only(n: u64, i: usize) -> u64
 
 // The quota of piece i.
 fn quota_of(n: u64, total: f64, left: u64, weights: &[f64], i: usize) -> u64
-    requires fact_1 { n ≤ 2 ^ 53 }
-    requires fact_2 { i < length weights.now }
-    requires fact_3 { left ≡ left_over n total weights.now }
+    requires exact { n ≤ 2 ^ 53 }
+    requires inside { i < length weights.now }
+    requires left_over { left ≡ left_over n total weights.now }
     ensures { result ≡ quota_of n total left weights.now i }
 {
     if no_weight(total) {
@@ -137,8 +137,8 @@ fn quota_of(n: u64, total: f64, left: u64, weights: &[f64], i: usize) -> u64
 }
 
 pub fn apportion(n: u64, weights: &[f64], quotas: &mut [u64])
-    requires fact_1 { n ≤ 2 ^ 53 }
-    requires fact_2 { length weights.now ≤ length quotas.old }
+    requires exact { n ≤ 2 ^ 53 }
+    requires room { length weights.now ≤ length quotas.old }
     ensures { quotas.new ≡ written (apportion n weights.now) quotas.old }
 {
     let sum = total(weights);

@@ -1,4 +1,4 @@
--- The scope's worked job, and jobs near it: one item at or beyond a limit, cut short, or with two zones. What is refused, by the definitions, as one list.
+-- A worked job, and jobs near it: one item at or beyond a limit, cut short, or with two zones. What is refused, by the definitions, as one list.
 -- Assumes nothing.
 use Rattle.std.specs.Prelude.{ℕ, zero, suc, ◌+◌, ◌-◌, ◌≡◌, refl, length, take, Float}
 use mathlib.Core.List.{List, [], ◌∷◌, ◌++◌, map, flat_map}

@@ -1,4 +1,4 @@
--- The answer of the call: the scope's numbers for each case, and what is kept by a sheet that is given. Definitions only.
+-- The answer of the call: its number for each case, and what is kept by a sheet that is given. Definitions only.
 use Rattle.std.specs.Prelude.{cond, List, [], ◌∷◌, ℕ, eqb}
 use Rattle.job.specs.Plan.{Plan}
 use Rattle.claims.specs.Claim.{SheetKept}

@@ -1,4 +1,4 @@
--- The scope's cases to be proved, as one list: what is asked of the definitions, and what they answer.
+-- Worked cases, as one list: what is asked of the definitions, and what they answer.
 -- Proved by computation.
 use Rattle.std.specs.Prelude.{◌≡◌, refl, Bool, true, false, List, [], ◌∷◌, map, ℕ, negsuc, Float}
 use Rattle.std.specs.Float.Ieee

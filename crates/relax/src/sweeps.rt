@@ -147,9 +147,9 @@ pub fn relax_scatter(
     inset: f64,
 )
     requires { (length spots.old ≡ length unrooted.old * 2) × (length honoring.old ≡ length unrooted.old) × (0 < length sizes.now) × (sum sizes.now * 2 ≤ length coords.now) }
-    ensures fact_1 { spots.new ≡ flat (relax_scatter numbers (spots_of spots.old) (piece_of sizes.now coords.now) (rectangles obstacles.now) spacing inset) }
-    ensures fact_2 { map rooted unrooted.new ≡ clearances_of (piece_of sizes.now coords.now) (relax_scatter numbers (spots_of spots.old) (piece_of sizes.now coords.now) (rectangles obstacles.now) spacing inset) }
-    ensures fact_3 { honoring.new ≡ map flag_of (honoring_of (rectangles obstacles.now) inset (spots_of spots.old)) }
+    ensures spots { spots.new ≡ flat (relax_scatter numbers (spots_of spots.old) (piece_of sizes.now coords.now) (rectangles obstacles.now) spacing inset) }
+    ensures unrooted { map rooted unrooted.new ≡ clearances_of (piece_of sizes.now coords.now) (relax_scatter numbers (spots_of spots.old) (piece_of sizes.now coords.now) (rectangles obstacles.now) spacing inset) }
+    ensures honoring { honoring.new ≡ map flag_of (honoring_of (rectangles obstacles.now) inset (spots_of spots.old)) }
 {
     note_honoring(&spots[..], &mut honoring[..], obstacles, inset);
     note_unrooted(&spots[..], &mut unrooted[..], sizes, coords);

@@ -1,4 +1,4 @@
--- The scope's worked sheet: its 37 bytes, and what they say.
+-- A worked sheet: its 37 bytes, and what they say.
 -- Assumes nothing.
 use Rattle.std.specs.Prelude.{◌≡◌, refl, ℕ}
 use mathlib.Core.List.{List, [], ◌∷◌}

@@ -1,4 +1,4 @@
-//! Published vectors, the scope's plans and edge cases of the entries, written out to be compared with stdout.
+//! Published vectors, worked cases and edge cases of the entries, written out to be compared with stdout.
 #![tactic(auto)]
 
 mod hash;

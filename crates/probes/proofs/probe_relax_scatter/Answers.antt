@@ -14,4 +14,4 @@ pub relax_scatter-requires : goal.relax_scatter-requires
 relax_scatter-requires c = simp (length-take, length-replicate) (omega arith)
 
 pub returns : goal.returns
-returns c = c.relax_scatter.ensures.fact_1
+returns c = c.relax_scatter.ensures.spots

@@ -8,7 +8,7 @@ first : (m : ℕ) → 2 ^ 52 ≤ m → m < 2 ^ 54 → State (2 ^ 53) (m * 2 ^ 52
 first m h l = ((52, refl), (omega arith, omega arith), le_refl (2 ^ 53), lit< tt)
 
 pub loop-bit-init : goal.loop-bit-init
-loop-bit-init c = first c.args.m c.requires.fact_1 c.requires.fact_2
+loop-bit-init c = first c.args.m c.requires.low c.requires.high
 
 pub overflow_mul-rest : goal.overflow_mul-rest
 overflow_mul-rest c = omega arith

@@ -45,16 +45,16 @@ pub root_guess-d-requires : goal.root_guess-d-requires
 root_guess-d-requires c = (normal c.before.before.before).3.2
 
 pub is_root-requires : goal.is_root-requires
-is_root-requires c = record { fact_1 = (normal c.before.before.before.before).0.1; fact_2 = (normal c.before.before.before.before).0.2 }
+is_root-requires c = record { normal = (normal c.before.before.before.before).0.1; finite = (normal c.before.before.before.before).0.2 }
 
 pub is_root-requires-then-is_normal : goal.is_root-requires-then-is_normal
-is_root-requires-then-is_normal c = record { fact_1 = (normal c.before.before.before.before.before).1.1; fact_2 = (normal c.before.before.before.before.before).1.2 }
+is_root-requires-then-is_normal c = record { normal = (normal c.before.before.before.before.before).1.1; finite = (normal c.before.before.before.before.before).1.2 }
 
 pub is_root-requires-then-is_normal-2 : goal.is_root-requires-then-is_normal-2
-is_root-requires-then-is_normal-2 c = record { fact_1 = (normal c.before.before.before.before.before.before).2.1; fact_2 = (normal c.before.before.before.before.before.before).2.2 }
+is_root-requires-then-is_normal-2 c = record { normal = (normal c.before.before.before.before.before.before).2.1; finite = (normal c.before.before.before.before.before.before).2.2 }
 
 pub is_root-requires-then-is_normal-3 : goal.is_root-requires-then-is_normal-3
-is_root-requires-then-is_normal-3 c = record { fact_1 = (normal c.before.before.before.before.before.before.before).3.1; fact_2 = (normal c.before.before.before.before.before.before.before).3.2 }
+is_root-requires-then-is_normal-3 c = record { normal = (normal c.before.before.before.before.before.before.before).3.1; finite = (normal c.before.before.before.before.before.before.before).3.2 }
 
 pub returns-then-is_root : goal.returns-then-is_root
 returns-then-is_root c =

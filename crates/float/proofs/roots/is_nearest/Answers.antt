@@ -7,7 +7,7 @@ use Rattle.float.proofs.roots.is_nearest.Goals as goal
 pub overflow_add-high : goal.overflow_add-high
 overflow_add-high c =
     let borrow = ltb ((c.args.m + 2) % 0x1000 * 2 ^ 52) c.wrapping_mul-low.result in
-    record { fits = high_fits c.args.r c.high_mul-high.result borrow c.requires.fact_2 c.high_mul-high.ensures }
+    record { fits = high_fits c.args.r c.high_mul-high.result borrow c.requires.root c.high_mul-high.ensures }
 
 pub returns-then-high-lower : goal.returns-then-high-lower
 returns-then-high-lower c t = absurd t
@@ -17,7 +17,7 @@ returns-then-rest-r c t = absurd t
 
 pub overflow_add-result : goal.overflow_add-result
 overflow_add-result c =
-    record { fits = rest_fits c.args.r _ _ c.requires.fact_2 (omega arith) c.if-rest-r.false }
+    record { fits = rest_fits c.args.r _ _ c.requires.root (omega arith) c.if-rest-r.false }
 
 pub returns : goal.returns
 returns c t =

@@ -13,7 +13,7 @@ float_to_bits-guess c = above_number c.args.guess c.if-guess.true
 
 pub returns-then-guess : goal.returns-then-guess
 returns-then-guess c t =
-    sym (of_bits-to_bits binary64 c.args.guess (yes c.well_formed.1.0.1)) ∙ c.is_scaled_root.ensures t ∙ sym (normal_root c.args.bits c.requires.fact_1 c.requires.fact_2)
+    sym (of_bits-to_bits binary64 c.args.guess (yes c.well_formed.1.0.1)) ∙ c.is_scaled_root.ensures t ∙ sym (normal_root c.args.bits c.requires.normal c.requires.finite)
 
 pub returns : goal.returns
 returns c t = absurd t

@@ -11,8 +11,8 @@ returns-then-r-ge18014398509481984 c t = absurd t
 
 pub is_nearest-requires : goal.is_nearest-requires
 is_nearest-requires c =
-    record { fact_1 = moved_lt c.args.m c.args.g c.requires.fact_1 c.requires.fact_2; fact_2 = c.if-r-ge18014398509481984.false }
+    record { digits = moved_lt c.args.m c.args.g c.requires.low c.requires.high; root = c.if-r-ge18014398509481984.false }
 
 pub returns : goal.returns
 returns c t =
-    from_pattern c.args.m c.args.g c.requires.fact_1 c.requires.fact_2 c.args.pattern c.if-pattern-field.false c.requires.fact_3 (c.is_nearest.ensures t)
+    from_pattern c.args.m c.args.g c.requires.low c.requires.high c.args.pattern c.if-pattern-field.false c.requires.places (c.is_nearest.ensures t)

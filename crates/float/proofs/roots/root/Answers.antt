@@ -16,7 +16,7 @@ pub root_guess-guess-requires : goal.root_guess-guess-requires
 root_guess-guess-requires c = (normal c).2
 
 pub is_root-requires : goal.is_root-requires
-is_root-requires c = record { fact_1 = (normal c.before).1; fact_2 = (normal c.before).2 }
+is_root-requires c = record { normal = (normal c.before).1; finite = (normal c.before).2 }
 
 pub returns-then-is_root : goal.returns-then-is_root
 returns-then-is_root c =

@@ -12,27 +12,27 @@ kept : (n : ℕ) → n < 2 ^ 53 → n % 2 ^ 64 ≡ n
 kept n h = mod-eq_of_lt (omega arith)
 
 pub overflow_sub-z : goal.overflow_sub-z
-overflow_sub-z c = omega (arith, moved c.args.bits c.requires.fact_1 c.if-bits-lt4503599627370496.true)
+overflow_sub-z c = omega (arith, moved c.args.bits c.requires.above_zero c.if-bits-lt4503599627370496.true)
 
 pub overflow_cast-z : goal.overflow_cast-z
-overflow_cast-z c = omega (arith, moved c.args.bits c.requires.fact_1 c.if-bits-lt4503599627370496.true)
+overflow_cast-z c = omega (arith, moved c.args.bits c.requires.above_zero c.if-bits-lt4503599627370496.true)
 
 pub overflow_shl-bits : goal.overflow_shl-bits
-overflow_shl-bits c = omega (arith, moved c.args.bits c.requires.fact_1 c.if-bits-lt4503599627370496.true)
+overflow_shl-bits c = omega (arith, moved c.args.bits c.requires.above_zero c.if-bits-lt4503599627370496.true)
 
 pub overflow_sub-z-then-bits-lt4503599627370496 : goal.overflow_sub-z-then-bits-lt4503599627370496
-overflow_sub-z-then-bits-lt4503599627370496 c = omega (arith, moved c.args.bits c.requires.fact_1 c.if-bits-lt4503599627370496.true)
+overflow_sub-z-then-bits-lt4503599627370496 c = omega (arith, moved c.args.bits c.requires.above_zero c.if-bits-lt4503599627370496.true)
 
 pub scaled_root-requires : goal.scaled_root-requires
-scaled_root-requires c = record { fact_1 = omega (arith, moved c.args.bits c.requires.fact_1 c.if-bits-lt4503599627370496.true); fact_2 = omega (arith, moved c.args.bits c.requires.fact_1 c.if-bits-lt4503599627370496.true); fact_3 = omega (arith, moved c.args.bits c.requires.fact_1 c.if-bits-lt4503599627370496.true) }
+scaled_root-requires c = record { low = omega (arith, moved c.args.bits c.requires.above_zero c.if-bits-lt4503599627370496.true); high = omega (arith, moved c.args.bits c.requires.above_zero c.if-bits-lt4503599627370496.true); places = omega (arith, moved c.args.bits c.requires.above_zero c.if-bits-lt4503599627370496.true) }
 
 pub returns-then-bits-lt4503599627370496 : goal.returns-then-bits-lt4503599627370496
 returns-then-bits-lt4503599627370496 c =
-    let f = moved c.args.bits c.requires.fact_1 c.if-bits-lt4503599627370496.true in
+    let f = moved c.args.bits c.requires.above_zero c.if-bits-lt4503599627370496.true in
     c.scaled_root.ensures
     ∙ ap (λ (n : ℕ). nearest_root binary64 (n * 2 ^ 52 * 2 ^ (1022 - (count_leading_zeros 64 c.args.bits - 11)))) (kept (c.args.bits * 2 ^ (count_leading_zeros 64 c.args.bits - 11)) f.3)
-    ∙ sym (subnormal_root c.args.bits (count_leading_zeros 64 c.args.bits - 11) c.requires.fact_1 c.if-bits-lt4503599627370496.true f.1)
+    ∙ sym (subnormal_root c.args.bits (count_leading_zeros 64 c.args.bits - 11) c.requires.above_zero c.if-bits-lt4503599627370496.true f.1)
 
 pub returns : goal.returns
 returns c =
-    c.scaled_root-2.ensures ∙ sym (normal_root c.args.bits c.if-bits-lt4503599627370496.false c.requires.fact_2)
+    c.scaled_root-2.ensures ∙ sym (normal_root c.args.bits c.if-bits-lt4503599627370496.false c.requires.finite)

@@ -9,10 +9,10 @@ use Rattle.float.proofs.roots.scaled_root.Goals.{After-digit_root}
 -- the digits found are at most 2 ^ 53
 most : (c : After-digit_root) → c.digit_root.result ≤ 2 ^ 53
 most c =
-    at_most (c.args.m * 2 ^ (c.args.g % 2) % 2 ^ 64) c.digit_root.result (moved_lt c.args.m c.args.g c.requires.fact_1 c.requires.fact_2) c.digit_root.ensures
+    at_most (c.args.m * 2 ^ (c.args.g % 2) % 2 ^ 64) c.digit_root.result (moved_lt c.args.m c.args.g c.requires.low c.requires.high) c.digit_root.ensures
 
 pub digit_root-requires : goal.digit_root-requires
-digit_root-requires c = record { fact_1 = moved_le c.args.m c.args.g c.requires.fact_1 c.requires.fact_2; fact_2 = moved_lt c.args.m c.args.g c.requires.fact_1 c.requires.fact_2 }
+digit_root-requires c = record { low = moved_le c.args.m c.args.g c.requires.low c.requires.high; high = moved_lt c.args.m c.args.g c.requires.low c.requires.high }
 
 pub overflow_add-result : goal.overflow_add-result
 overflow_add-result c = omega (arith, most c)
@@ -22,4 +22,4 @@ float_from_bits-result c = no_nan (c.args.g / 2 * 2 ^ 52 + c.digit_root.result) 
 
 pub returns : goal.returns
 returns c =
-    from_digits c.args.m c.args.g c.requires.fact_1 c.requires.fact_2 c.digit_root.result c.requires.fact_3 c.digit_root.ensures
+    from_digits c.args.m c.args.g c.requires.low c.requires.high c.digit_root.result c.requires.places c.digit_root.ensures

@@ -28,7 +28,7 @@ int_to_float-result c =
     in_float_lem _ (le_of_lt (cut_lt c.args.x c.truncating_f64_to_u64.result c.truncating_f64_to_u64.ensures (above c.before.before)))
 
 pub whole_above-requires : goal.whole_above-requires
-whole_above-requires c = let p = (above_asks (neg c.args.x) (neg_sized _ (below c))) in record { fact_1 = p.0; fact_2 = p.1 }
+whole_above-requires c = let p = (above_asks (neg c.args.x) (neg_sized _ (below c))) in record { above_zero = p.0; small = p.1 }
 
 pub int_to_float-result-then-x-4 : goal.int_to_float-result-then-x-4
 int_to_float-result-then-x-4 c =

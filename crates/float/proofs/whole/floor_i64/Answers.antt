@@ -27,7 +27,7 @@ unfolding of_bits neg
 same c = elim c.if-x.branch [ then-x+else-x-2 w ↦ floor_cast_far c.args.x (held c.before) (no w.if-x-2.false) | else-x w ↦ floor_cast_above c.args.x (held c.before) (no w.if-x.false) ]
 
 pub whole_above-requires : goal.whole_above-requires
-whole_above-requires c = let p = (above_asks (neg c.args.x) (neg_sized _ (below c))) in record { fact_1 = p.0; fact_2 = p.1 }
+whole_above-requires c = let p = (above_asks (neg c.args.x) (neg_sized _ (below c))) in record { above_zero = p.0; small = p.1 }
 
 pub overflow_cast-result : goal.overflow_cast-result
 overflow_cast-result c = positive_fits _ (small c)

@@ -8,7 +8,7 @@ use Rattle.float.proofs.whole.whole_above.Goals as goal
 use Rattle.float.proofs.whole.whole_above.Goals.{After-truncating_f64_to_u64-n, Start}
 
 sized : (c : Start) → Sized false c.args.x
-sized c = above_sized c.args.x c.requires.fact_1 c.requires.fact_2
+sized c = above_sized c.args.x c.requires.above_zero c.requires.small
 
 small : (c : After-truncating_f64_to_u64-n) → c.truncating_f64_to_u64-n.result < 2 ^ 53
 small c = cut_lt c.args.x c.truncating_f64_to_u64-n.result c.truncating_f64_to_u64-n.ensures (sized c.before)

@@ -14,7 +14,7 @@ slice_bounds-apportion-end c = sym (ap length (areas_front c.args.rings.now c.ar
 pub apportion-requires : goal.apportion-requires
 apportion-requires c =
     let e = ap length (areas_front c.args.rings.now c.args.sizes.now c.args.coords.now _ _ c.requires.1 c.put_areas.ensures) ∙ length_areas c.args.rings.now c.args.sizes.now c.args.coords.now in
-    record { fact_1 = omega (arith, c.requires.3); fact_2 = rw e c.requires.1 }
+    record { exact = omega (arith, c.requires.3); room = rw e c.requires.1 }
 
 pub slice_bounds-put_shares-end : goal.slice_bounds-put_shares-end
 slice_bounds-put_shares-end c = sym (ap length (shares_front c.args.rings.now c.args.sizes.now c.args.coords.now c.args.count _ _ _ (areas_front c.args.rings.now c.args.sizes.now c.args.coords.now _ _ c.requires.1 c.put_areas.ensures) c.apportion.ensures) ∙ length_apportion c.args.count (areas (pieces_of c.args.rings.now c.args.sizes.now c.args.coords.now)) ∙ length_areas c.args.rings.now c.args.sizes.now c.args.coords.now)

@@ -22,7 +22,7 @@ returns-then-idle c =
     let n : length c.note_honoring.new.honoring ≡ length points = simp length_spots (omega arith) in
     let h : idle (length points) a.spacing ≡ true = rw (← n, ← c.idle.ensures) c.if-idle.true in
     let e = idle_end a.numbers points piece (rectangles a.obstacles.now) a.spacing a.inset a.spots.now (length a.unrooted.now) refl (omega arith) h in
-    record { fact_1 = e.0; fact_2 = rw (c.note_unrooted.ensures, noted_roots) e.1; fact_3 = c.note_honoring.ensures }
+    record { spots = e.0; unrooted = rw (c.note_unrooted.ensures, noted_roots) e.1; honoring = c.note_honoring.ensures }
 
 pub relax_sweeps-requires : goal.relax_sweeps-requires
 relax_sweeps-requires c =
@@ -47,4 +47,4 @@ returns c =
     (omega (arith, c.requires.0, c.relax_sweeps.auto.spots))
     h
     s in
-    record { fact_1 = e.0; fact_2 = e.1; fact_3 = c.note_honoring.ensures }
+    record { spots = e.0; unrooted = e.1; honoring = c.note_honoring.ensures }

@@ -35,4 +35,4 @@ returns c =
     let n : length (relax_scatter a.numbers ps piece near (spacing a.ctx) (inset a.ctx)) ≡ a.count =
     length_relaxed a.numbers ps piece near (spacing a.ctx) (inset a.ctx) ∙ length_first a.count a.spots.now c.requires.4 in
     front_replaced a.count (relax_scatter a.numbers ps piece near (spacing a.ctx) (inset a.ctx)) a.spots.now _
-    (c.relax_scatter.ensures.fact_1 ∙ rw (spots_take, c.inset.ensures, c.spacing.ensures)) n
+    (c.relax_scatter.ensures.spots ∙ rw (spots_take, c.inset.ensures, c.spacing.ensures)) n
