@@ -1,6 +1,6 @@
 -- The ceiling of a job's radius is 1,031 at most.
 -- Rests on the bound of a deepest point's clearance: a zone's bound is no more than that.
-use Rattle.std.specs.Prelude.{◌≡◌, ◌⊎◌, Bool, true, false, cond, ◌&&◌, ℕ, T}
+use Rattle.std.specs.Prelude.{◌≡◌, ◌⊎◌, Bool, true, false, cond, ◌&&◌, ℕ, T, None, Some}
 use Rattle.std.proofs.Math.Path.{refl}
 use Rattle.std.proofs.Common.{subst, inl, inr, arith, lit<, lit≤}
 use mathlib.Core.List.{List, [], ◌∷◌, foldl}
@@ -26,7 +26,6 @@ use Rattle.deepest.specs.declared.search.Deepest.{Deepest}
 use Rattle.deepest.specs.declared.search.Deepest.TheVariants.{Found, Nothing, Full}
 use Rattle.deepest.specs.Deepest.{poi_with_holes}
 use Rattle.discs.specs.Region.{Zone}
-use Rattle.discs.specs.declared.ceiling.Chosen.TheVariants.{None, Some}
 use Rattle.discs.specs.Radius.{area_of, lowered, if_positive, analytic_r_hi}
 use Rattle.claims.specs.Deepest.{OfFound, Deep}
 use Rattle.claims.proofs.Deepest.{poi_deep}

@@ -1,6 +1,6 @@
 -- THE RADIUS OF A JOB: where spots are placed it is 2 ^ -21 at least and k at most, for a stated radius of at most 1,024 in 1/1024 and a ceiling of 2 ^ -10 at least and k at most.
 -- Rests on the law of the radius under a ceiling.
-use Rattle.std.specs.Prelude.{◌≡◌, refl, Bool, cond, ◌&&◌, List, T, Float}
+use Rattle.std.specs.Prelude.{◌≡◌, refl, Bool, cond, ◌&&◌, List, T, Float, None, Some, Option}
 use Rattle.std.proofs.Common.{◌∙◌, zero-mul}
 use Rattle.std.proofs.Math.Bool.{true, false}
 use Prim.Native.Nat.{ℕ, zero, suc, ◌*◌, ◌^◌, ◌≤◌, ◌<◌}
@@ -17,9 +17,6 @@ use Rattle.format.specs.Numbers.{share}
 use Rattle.format.specs.Exact.{Coordinate, coordinate_sized, share_exact, share_value}
 use Rattle.discs.specs.declared.options.Radius.{Radius}
 use Rattle.discs.specs.declared.options.Radius.TheVariants.{Auto, Stated}
-use Rattle.discs.specs.declared.ceiling.Chosen.{Chosen}
-use Rattle.discs.specs.declared.ceiling.Chosen.TheVariants.{None, Some}
-use Rattle.discs.specs.declared.radius.Sizing.TheVariants.{Unplaced, At}
 use Rattle.discs.specs.PlaceGlyphs.{size_for}
 use Rattle.job.specs.Known.{RadiusKnown}
 use Rattle.claims.specs.Halved.{ceiling}
@@ -59,13 +56,13 @@ module _ (k : ℕ) (big : 1024 ≤ k) (few : k < 65536) where
   stated_usable : (r : Float) → RadiusKnown (Stated r) → T (0ᶠ <ᶠ r) → Usable r k
   stated_usable r s t = rw s.is (share_usable s.number s.to (rw s.is at t))
 
-  pub sizing_usable : (fit : List Rectangle → Float → Bool) (obstacles : List Rectangle) (radius : Radius) → RadiusKnown radius → (top : Chosen) → TopKnown k radius top → SizingUsable k (size_for fit obstacles radius top)
+  pub sizing_usable : (fit : List Rectangle → Float → Bool) (obstacles : List Rectangle) (radius : Radius) → RadiusKnown radius → (top : Option Float) → TopKnown k radius top → SizingUsable k (size_for fit obstacles radius top)
   unfolding size_for
   sizing_usable fit obstacles Auto s None t = tt
   sizing_usable fit obstacles Auto s (Some r-hi) t = under_ceiling fit obstacles r-hi (ceiling r-hi (wider (omega (arith, few)) t.sized) t.nonneg t.least) k few t.sized
   sizing_usable fit obstacles (Stated r) s top t = go (r >ᶠ 0ᶠ) (is_finite r) (stated_usable r s)
     where
-      go : (a b : Bool) → (T a → Usable r k) → SizingUsable k (cond (a && b) (At (record { radius = r; free_trials = 0; obstacle_trials = 0 })) Unplaced)
+      go : (a b : Bool) → (T a → Usable r k) → SizingUsable k (cond (a && b) (Some (record { radius = r; free_trials = 0; obstacle_trials = 0 })) None)
       go true true u = u tt
       go true false u = tt
       go false b u = tt

@@ -1,6 +1,6 @@
 -- A deepest point lies within 5,120 across and 1,024 along, and its clearance is above 0 and 1,031 at most.
 -- Rests on the search holding of every cell its own clearance, and on the bound of clearances.
-use Rattle.std.specs.Prelude.{◌||◌, ◌≡◌, Bool, cond, T, ltb, length, Float}
+use Rattle.std.specs.Prelude.{◌||◌, ◌≡◌, Option, Some, None, Bool, cond, T, ltb, length, Float}
 use Rattle.std.proofs.Math.Path.{refl}
 use Rattle.std.proofs.Math.Bool.{true, false}
 use mathlib.Core.List.{List, [], ◌∷◌, foldl}
@@ -15,13 +15,13 @@ use Rattle.float.specs.Laws.Nan.{lt_number}
 use Rattle.float.specs.Laws.Compare.{le_self}
 use Rattle.glyphs.specs.Points.{vertices}
 use Rattle.glyphs.specs.declared.bounds.Extents.{Extents}
+use Rattle.glyphs.specs.declared.rect.Point.{Point}
 use Rattle.glyphs.specs.Bounds.{extents_of}
 use Rattle.regions.specs.Ring.{Piece, outer}
 use Rattle.regions.specs.Clearance.{signed_clearance}
 use Rattle.format.specs.Known.{All, PieceKnown}
 use Rattle.deepest.specs.declared.queue.Cell.{Cell}
 use Rattle.deepest.specs.declared.search.Best.{Best}
-use Rattle.deepest.specs.declared.seeds.Corner.{Corner}
 use Rattle.deepest.specs.declared.search.Deepest.{Deepest}
 use Rattle.deepest.specs.declared.search.Deepest.TheVariants.{Found, Nothing, Full}
 use Rattle.deepest.specs.Order.{halves_from, half_at, leaves}
@@ -88,12 +88,14 @@ module _ (piece : Piece) (halves : List Float) where
       (one (HonestFound piece) (ltb room (length rest + 4)) Full _ tt (turned f precision room (enter_four piece halves c n rest) (better_of best c) (n + 4) (four c n rest a.1) g))
       (turned f precision room rest (better_of best c) n a.1 g)
 
-  gridded : (e : Extents) (side : Float) (r : ℕ) (c : Corner) (q : List Cell) (n : ℕ) → Every (HonestCell piece) q → HonestGrid piece (grid_from piece halves e side r c q n)
+  gridded :
+      (e : Extents) (side : Float) (r : ℕ) (c : Option Point) (q : List Cell) (n : ℕ) → Every (HonestCell piece) q
+      → HonestGrid piece (grid_from piece halves e side r c q n)
   unfolding grid_from
-  gridded e side zero c q n a = one (HonestGrid piece) c.more over (waiting q) tt a
-  gridded e side (suc r) c q n a =
-      one (HonestGrid piece) c.more _ (waiting q)
-      (gridded e side r (next_corner e side c) _ (n + 1) (entered _ q (made _ _ _ _ (add-fits binary64 c.x (half_at halves 0)) (add-fits binary64 c.y (half_at halves 0))) a)) a
+  gridded e side r None q n a = a
+  gridded e side zero (Some c) q n a = tt
+  gridded e side (suc r) (Some c) q n a =
+      gridded e side r (next_corner e side c) _ (n + 1) (entered _ q (made _ _ _ _ (add-fits binary64 c.x (half_at halves 0)) (add-fits binary64 c.y (half_at halves 0))) a)
 
   finished : (precision : Float) (room : ℕ) (best : Best) (g : Grid) → HonestBest piece best → HonestGrid piece g → HonestFound piece (finish piece halves precision room best g)
   unfolding finish

@@ -1,6 +1,6 @@
 -- Of every job that is not refused, the sheet keeps what is claimed of it: clearances, exact distances, pillars under Strict, quotas.
 -- Rests on the laws of its zones and of the radius, and on the sheet's bytes being read back.
-use Rattle.std.specs.Prelude.{◌≡◌, refl, Bool, true, false, not, cond, ◌&&◌, List, [], ◌∷◌, ◌++◌, map, ℕ, suc, ◌*◌, ◌≤◌, ◌<◌, T, eqb, ltb, length, Float}
+use Rattle.std.specs.Prelude.{◌≡◌, refl, Bool, true, false, not, cond, ◌&&◌, List, [], ◌∷◌, ◌++◌, map, ℕ, suc, ◌*◌, ◌≤◌, ◌<◌, T, eqb, ltb, length, Float, None, Some, Option}
 use Rattle.std.proofs.Common.{sym, ap, subst, ◌∙◌, arith, eqb→eq, ltb→lt, eq-eqb}
 use Rattle.std.proofs.lemmas.List.{length-map}
 use Rattle.std.specs.Float.Ieee.{of_bits, fits}
@@ -15,8 +15,6 @@ use Rattle.glyphs.specs.Rect.{rectangles}
 use Rattle.discs.specs.Region.{Zone}
 use Rattle.discs.specs.declared.options.Radius.{Radius}
 use Rattle.discs.specs.declared.options.Radius.TheVariants.{Auto, Stated}
-use Rattle.discs.specs.declared.ceiling.Chosen.{Chosen}
-use Rattle.discs.specs.declared.ceiling.Chosen.TheVariants.{None, Some}
 use Rattle.discs.specs.Radius.{boundary_gap_of, analytic_r_hi}
 use Rattle.discs.specs.PlaceGlyphs.{Placed, is_left_in, work_of}
 use Rattle.format.specs.RowLaws.{both, passed}
@@ -89,13 +87,13 @@ top_known : (job : Job) → JobKnown job → ceiling_fault job ≡ 0 → TopKnow
 unfolding ceiling_fault ceiling_of
 top_known job k e = go job.options.radius e _ refl
   where
-    go : (radius : Radius) → low_fault (ceiling_of job.options (work_of job.zones) radius) ≡ 0 → (top : Chosen) → analytic_r_hi room (work_of job.zones) (boundary_gap_of job.options) job.options.precision ≡ top → TopKnown most radius top
+    go : (radius : Radius) → low_fault (ceiling_of job.options (work_of job.zones) radius) ≡ 0 → (top : Option Float) → analytic_r_hi room (work_of job.zones) (boundary_gap_of job.options) job.options.precision ≡ top → TopKnown most radius top
     go (Stated r) e top q = tt
     go Auto e None q = tt
     go Auto e (Some r-hi) q =
         let g = boundary_gap_lem job.options k.options in
         let known = every_weaken LeftIn (λ (zone : Zone). All PieceKnown zone.pieces) (work_of job.zones) (λ zone l. l.known.pieces) (left_in job.zones k.zones k.marks) in
-        high r-hi (ceiling_known room (boundary_gap_of job.options) job.options.precision g.sized g.nonneg (work_of job.zones) known r-hi q) (subst (λ (c : Chosen). low_fault c ≡ 0) q e)
+        high r-hi (ceiling_known room (boundary_gap_of job.options) job.options.precision g.sized g.nonneg (work_of job.zones) known r-hi q) (subst (λ (c : Option Float). low_fault c ≡ 0) q e)
 
 -- ---- the whole
 accepted : (s : List ℕ) (first second : List Float) (sheet : List ℕ) → number_of s first second sheet ≡ 0 → (items_fault s ≡ 0) × (ceiling_fault (job_of s) ≡ 0)

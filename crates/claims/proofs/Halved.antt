@@ -1,6 +1,6 @@
 -- The radius that a search finds under a ceiling of 2 ^ -10 at least is a 1,024th of the ceiling at least, and the ceiling at most.
 -- Rests on halving being exact: until a trial succeeds the upper end is the ceiling over a power of two, and the search ends once that is a 1,024th.
-use Rattle.std.specs.Prelude.{◌≡◌, Bool, cond, Float}
+use Rattle.std.specs.Prelude.{◌≡◌, Bool, cond, Float, None, Some, Option}
 use Rattle.std.proofs.Common.{sym, ◌∙◌, le_of_eq, mul-le-mul_left, lit<, pow-add, pow_mono}
 use Rattle.std.proofs.Math.Path.{ap}
 use Rattle.std.proofs.Math.Bool.{true, false}
@@ -18,8 +18,6 @@ use Rattle.rounding.specs.Bounds.{Sized, wider}
 use Rattle.rounding.proofs.Bounds.{sub_sized, mul_sized}
 use Rattle.rounding.specs.Signs.{Nonneg, zero_num, zero_sized, zero_val, zero_mag, product_nonneg}
 use Rattle.lattice.specs.Uniform.{1e-3ᶠ}
-use Rattle.discs.specs.declared.ceiling.Chosen.{Chosen}
-use Rattle.discs.specs.declared.ceiling.Chosen.TheVariants.{None, Some}
 use Rattle.discs.specs.declared.radius.Search.{Search}
 use Rattle.discs.specs.Radius.{halve, auto_radius}
 use Rattle.claims.specs.Middle.{middle, middle_between, half_exact}
@@ -59,13 +57,13 @@ module _ (r-hi : Float) (c : Ceiling r-hi) where
       bare false m = omega arith
 
 -- ---- the search, whatever the trials say
-one_of : (P : Chosen → Type 0) (stop fit : Bool) (x y z : Search) → P x.best → P y.best → P z.best → P (cond stop x (cond fit y z)).best
+one_of : (P : Option Float → Type 0) (stop fit : Bool) (x y z : Search) → P x.best → P y.best → P z.best → P (cond stop x (cond fit y z)).best
 one_of P true fit x y z p q r = p
 one_of P false true x y z p q r = q
 one_of P false false x y z p q r = r
 
 module _ (fit : Float → Bool) (r-hi : Float) (c : Ceiling r-hi) where
-  abbrev search : ℕ → Float → Float → Chosen → ℕ → Search
+  abbrev search : ℕ → Float → Float → Option Float → ℕ → Search
   search turns lo hi best made = halve fit r-hi turns lo hi best made
 
   abbrev ended : Float → Float → Bool
@@ -73,7 +71,7 @@ module _ (fit : Float → Bool) (r-hi : Float) (c : Ceiling r-hi) where
 
   -- after a success
   after :
-      (turns : ℕ) (lo hi : Float) (best : Chosen) (made : ℕ) → Found r-hi c lo → Sized hi 65536 → Nonneg hi → mag lo ≤ mag hi → mag hi ≤ mag r-hi
+      (turns : ℕ) (lo hi : Float) (best : Option Float) (made : ℕ) → Found r-hi c lo → Sized hi 65536 → Nonneg hi → mag lo ≤ mag hi → mag hi ≤ mag r-hi
       → Good r-hi c best → Good r-hi c (search turns lo hi best made).best
   unfolding halve
   after zero lo hi best made L G o h t g = g

@@ -1,6 +1,6 @@
 -- What the lattice packer places in a piece keeps what is claimed of it.
 -- Rests on `Walk` and `Apart`: the anchor and the box are within reach, and so is each spacing tried, none of which is below the least.
-use Rattle.std.specs.Prelude.{◌||◌, ◌≡◌, Bool, true, false, cond, ◌&&◌, ℕ, ◌≤◌, T, leb, ltb, length, take, Float}
+use Rattle.std.specs.Prelude.{◌||◌, ◌≡◌, Bool, true, false, cond, ◌&&◌, ℕ, ◌≤◌, T, leb, ltb, length, take, Float, Some, None, Option}
 use Rattle.std.proofs.Common.{subst, arith}
 use Rattle.std.proofs.Math.Bool.{not}
 use mathlib.Core.List.{List, [], ◌∷◌, ◌++◌, foldr}
@@ -13,8 +13,7 @@ use Rattle.float.specs.Whole.{floor, ceil, as_i64}
 use Rattle.rounding.specs.Bounds.{Sized}
 use Rattle.glyphs.specs.declared.rect.Point.{Point}
 use Rattle.glyphs.specs.declared.rect.Rectangle.{Rectangle}
-use Rattle.glyphs.specs.declared.bounds.Bounds.{Bounds}
-use Rattle.glyphs.specs.declared.bounds.Bounds.TheVariants.{Box, Nothing}
+use Rattle.glyphs.specs.declared.bounds.Extents.{Extents}
 use Rattle.glyphs.specs.Bounds.{ring_bounds}
 use Rattle.glyphs.specs.Rect.{is_finite}
 use Rattle.regions.specs.Ring.{Piece, outer}
@@ -60,23 +59,23 @@ module _
   abbrev cells : Float → Cap → HexCells
   cells s cap = cells_at piece n ctx rectangular near anchor s cap
 
-  sound_within : (b : Bounds) → BoxSized b → (s : Float) (cap : Cap) → Widened (spacing ctx) s → Sound piece (inset ctx) near (Apart s) (cells_within b piece anchor (record { spacing = s; rectangular = rectangular }) (inset ctx) near cap)
+  sound_within : (b : Option Extents) → BoxSized b → (s : Float) (cap : Cap) → Widened (spacing ctx) s → Sound piece (inset ctx) near (Apart s) (cells_within b piece anchor (record { spacing = s; rectangular = rectangular }) (inset ctx) near cap)
   unfolding cells_within
-  sound_within Nothing z s cap w = no_cells_lem piece (inset ctx) near (Apart s)
-  sound_within (Box min-x max-x min-y max-y) z s cap w = go (s ≤ᶠ 0ᶠ || not (is_finite s))
+  sound_within None z s cap w = no_cells_lem piece (inset ctx) near (Apart s)
+  sound_within (Some bounds) z s cap w = go (s ≤ᶠ 0ᶠ || not (is_finite s))
     where
       lat : Lattice
       lat = record { spacing = s; rectangular = rectangular }
 
       all : List Point
-      all = all_cells (record { spacing = s; rectangular = rectangular }) anchor min-x max-x min-y max-y
+      all = all_cells (record { spacing = s; rectangular = rectangular }) anchor bounds.min_x bounds.max_x bounds.min_y bounds.max_y
 
       go : (t : Bool) → Sound piece (inset ctx) near (Apart s) (cond t no_cells (judge piece (inset ctx) near cap no_cells (take hex_enum_cap all)))
       go true = no_cells_lem piece (inset ctx) near (Apart s)
       go false =
-          walked piece (inset ctx) near cap (Apart s) (apart_sym s) (take hex_enum_cap all) (every_take Fits hex_enum_cap all (walk_fits lat anchor min-x max-x min-y max-y))
+          walked piece (inset ctx) near cap (Apart s) (apart_sym s) (take hex_enum_cap all) (every_take Fits hex_enum_cap all (walk_fits lat anchor bounds.min_x bounds.max_x bounds.min_y bounds.max_y))
           (pairwise_take (Apart s) hex_enum_cap all
-          (walk_apart s rectangular anchor min-x max-x min-y max-y w.length w.few AX AY z.left z.right z.bottom z.top))
+          (walk_apart s rectangular anchor bounds.min_x bounds.max_x bounds.min_y bounds.max_y w.length w.few AX AY z.left z.right z.bottom z.top))
 
   sound_at : (s : Float) (cap : Cap) → Widened (spacing ctx) s → Sound piece (inset ctx) near (Apart s) (cells s cap)
   unfolding lattice_valid_cells
@@ -105,12 +104,12 @@ module _
   least = record { length = m.length; few = m.short; least = omega arith }
 
   -- the spacing widened, whatever the box
-  spread : (b : Bounds) → BoxSized b → (honoring : Bool) → KeptHere honoring (spread_cells piece n ctx rectangular near anchor b (cells (spacing ctx) (at n)) honoring)
+  spread : (b : Option Extents) → BoxSized b → (honoring : Bool) → KeptHere honoring (spread_cells piece n ctx rectangular near anchor b (cells (spacing ctx) (at n)) honoring)
   unfolding spread_cells
-  spread Nothing z honoring = taken (spacing ctx) (at n) least honoring
-  spread (Box min-x max-x min-y max-y) z honoring =
+  spread None z honoring = taken (spacing ctx) (at n) least honoring
+  spread (Some bounds) z honoring =
       taken _ never
-      (widened piece n ctx rectangular near anchor honoring min-x max-x min-y max-y z.left z.right z.bottom z.top (spacing ctx) m.length m.short)
+      (widened piece n ctx rectangular near anchor honoring bounds.min_x bounds.max_x bounds.min_y bounds.max_y z.left z.right z.bottom z.top (spacing ctx) m.length m.short)
       honoring
 
   -- short of room at the least spacing, Strict takes free cells only; otherwise honouring is what was possible there
@@ -135,10 +134,10 @@ module _
       go false true b false e = absurd (subst (λ (z : Bool). T (not z)) e tt)
       go false false b sp e = chosen b false
 
-  spread_count : (b : Bounds) (at_min : HexCells) (honoring : Bool) → length (spread_cells piece n ctx rectangular near anchor b at_min honoring) ≤ n
+  spread_count : (b : Option Extents) (at_min : HexCells) (honoring : Bool) → length (spread_cells piece n ctx rectangular near anchor b at_min honoring) ≤ n
   unfolding spread_cells
-  spread_count Nothing at_min honoring = taken_count at_min n anchor honoring
-  spread_count (Box min-x max-x min-y max-y) at_min honoring = taken_count _ n anchor honoring
+  spread_count None at_min honoring = taken_count at_min n anchor honoring
+  spread_count (Some bounds) at_min honoring = taken_count _ n anchor honoring
 
   pub lattice_count : ctx.mode.spread ≡ true → length (pack_lattice piece n ctx rectangular near anchor) ≤ n
   unfolding pack_lattice

@@ -1,6 +1,6 @@
 -- What a packer places in a piece, whichever the arrangement, and what a zone's pieces hold, keep what is claimed of them.
 -- Rests on the lattice, the scatter and the darts keeping it, and on where the lattice and a lone mark start.
-use Rattle.std.specs.Prelude.{◌≡◌, Bool, cond, ℕ, ◌≤◌, T, eqb, length, Float}
+use Rattle.std.specs.Prelude.{◌≡◌, Bool, cond, ℕ, ◌≤◌, T, eqb, length, Float, Option, Some, None}
 use Rattle.std.proofs.Math.Path.{refl}
 use Rattle.std.proofs.Common.{sym, subst, arith}
 use Rattle.std.proofs.Math.Bool.{true, false}
@@ -26,8 +26,6 @@ use Rattle.lattice.specs.declared.context.PackCtx.{PackCtx}
 use Rattle.lattice.specs.Context.{inset, spacing}
 use Rattle.lattice.specs.Escape.{point, escape_obstacles}
 use Rattle.lattice.specs.Uniform.{local_to, anchor_of, pack_lattice, pack_around}
-use Rattle.scatter.specs.declared.low.Anchor.{Anchor}
-use Rattle.scatter.specs.declared.low.Anchor.TheVariants.{Nowhere, At}
 use Rattle.scatter.specs.LowDiscrepancy.{lone_anchor, pack_scatter}
 use Rattle.scatter.specs.Random.{pack_random_piece}
 use Rattle.discs.specs.declared.options.GlyphOptions.{GlyphOptions}
@@ -91,14 +89,14 @@ module _ (ctx : PackCtx) (policy : ObstaclePolicy) (strict : policy ≡ Strict �
     uniform_kept rectangular Full s = no_spots m
     uniform_kept rectangular (Found x y d) s = around_kept rectangular x y s
 
-    from_kept : (anchor : Anchor) → AnchorFits anchor → Claimed (pack_scatter anchor piece quota ctx pillars)
+    from_kept : (anchor : Option Point) → AnchorFits anchor → Claimed (pack_scatter anchor piece quota ctx pillars)
     from_kept anchor f = kept_piece (pack_scatter anchor piece quota ctx pillars) m (scatter_kept anchor f piece quota ctx pillars m) (scatter_count anchor f piece quota ctx pillars m)
 
     lone_fits : (x y : Float) → SitedAt (Found x y x) → AnchorFits (lone_anchor (point x y) piece quota ctx pillars)
     unfolding lone_anchor
     lone_fits x y s = go (eqb quota 1)
       where
-        go : (t : Bool) → AnchorFits (cond t (At (escape_obstacles (point x y) piece near (inset ctx))) Nowhere)
+        go : (t : Bool) → AnchorFits (cond t (Some (escape_obstacles (point x y) piece near (inset ctx))) None)
         go true =
             let e = escape_sited piece near (inset ctx) m.number m.sited (point x y) s in
             record { across = e.across.num.fit; along = e.along.num.fit }
@@ -106,8 +104,8 @@ module _ (ctx : PackCtx) (policy : ObstaclePolicy) (strict : policy ≡ Strict �
 
     low_kept : (d : Deepest) → SitedAt d → Claimed (pack_low_discrepancy_piece d piece quota ctx pillars)
     unfolding pack_low_discrepancy_piece
-    low_kept Nothing s = from_kept Nowhere tt
-    low_kept Full s = from_kept Nowhere tt
+    low_kept Nothing s = from_kept None tt
+    low_kept Full s = from_kept None tt
     low_kept (Found x y d) s = from_kept (lone_anchor (point x y) piece quota ctx pillars) (lone_fits x y s)
 
     -- ONE PIECE, whichever the arrangement

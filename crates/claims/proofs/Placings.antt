@@ -1,6 +1,6 @@
 -- The zones that `place_glyphs` leaves in, at the radius that it finds: each keeps what is claimed of its pieces.
 -- Rests on the law of a zone, and on the radius being 2 ^ -21 to 1,084 wherever spots are placed.
-use Rattle.std.specs.Prelude.{◌≡◌, refl, Bool, true, false, cond, ℕ, ◌≤◌, T, eqb, length, Float}
+use Rattle.std.specs.Prelude.{◌≡◌, refl, Bool, true, false, cond, ℕ, ◌≤◌, T, eqb, length, Float, None, Some, Option}
 use Rattle.std.proofs.Common.{ap, arith, eqb→eq}
 use mathlib.Core.List.{List, [], ◌∷◌, map}
 use Rattle.std.specs.Float.Ieee.{binary64, fits, is_nan}
@@ -13,12 +13,11 @@ use Rattle.glyphs.specs.declared.rect.Point.{Point}
 use Rattle.glyphs.specs.declared.rect.Rectangle.{Rectangle}
 use Rattle.glyphs.specs.Rect.{sanitize_obstacles}
 use Rattle.relax.specs.declared.Spreading.{Spreading}
+use Rattle.discs.specs.declared.radius.Size.{Size}
 use Rattle.discs.specs.declared.options.GlyphOptions.{GlyphOptions}
 use Rattle.discs.specs.declared.options.Radius.{Radius}
 use Rattle.discs.specs.declared.options.Radius.TheVariants.{Auto, Stated}
 use Rattle.discs.specs.Region.{Zone, quotas, pack_region}
-use Rattle.discs.specs.declared.radius.Sizing.{Sizing}
-use Rattle.discs.specs.declared.radius.Sizing.TheVariants.{Unplaced, At}
 use Rattle.discs.specs.Radius.{boundary_gap_of, context_at, analytic_r_hi, feasible}
 use Rattle.discs.specs.PlaceGlyphs.{Placed, Placements, work_of, pack, unplaced, pack_at, sizing, stated_radius, place_glyphs}
 use Rattle.format.specs.Numbers.{share}
@@ -53,10 +52,10 @@ module _ (most : ℕ) (big : 1024 ≤ most) (few : most ≤ 1084) (numbers : Spr
         fit = zero_num.fit;
       }
 
-  packed : (sizing : Sizing) → SizingUsable most sizing → PlacementsKept (pack_at room numbers options given zones sizing)
+  packed : (sizing : Option Size) → SizingUsable most sizing → PlacementsKept (pack_at room numbers options given zones sizing)
   unfolding pack_at
-  packed Unplaced u = none_placed
-  packed (At size) u =
+  packed None u = none_placed
+  packed (Some size) u =
       let r = size.radius in
       let pillars = sanitize_obstacles given in
       let spots : Zone → List (List Point) = λ zone. pack_region room numbers options (context_at options (pack options) r) pillars zone in

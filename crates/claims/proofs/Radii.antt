@@ -1,6 +1,6 @@
 -- The radius under a ceiling of 2 ^ -10 at least is 2 ^ -21 at least, and the ceiling at most.
 -- Rests on the search's least success: a 1,024th of the ceiling, and half of it where there are obstacles.
-use Rattle.std.specs.Prelude.{◌≡◌, refl, Bool, true, false, cond, List, [], ℕ, ◌*◌, ◌^◌, ◌≤◌, ◌<◌, eqb, length}
+use Rattle.std.specs.Prelude.{◌≡◌, refl, Bool, true, false, cond, List, [], ℕ, ◌*◌, ◌^◌, ◌≤◌, ◌<◌, eqb, length, None, Some, Option, Float}
 use Rattle.std.proofs.Common.{sym, ap, inl, inr, le_trans, le_of_eq, mul-le-mul_left, mul-le-mul_right, arith, lit<}
 use Rattle.std.proofs.Math.Dec.{lit≤}
 use Rattle.std.specs.Float.Ieee.{Float, of_bits, fits}
@@ -14,11 +14,10 @@ use Rattle.rounding.proofs.Bounds.{mul_sized}
 use Rattle.rounding.specs.Signs.{Nonneg, zero_sized, zero_val, product_nonneg}
 use Rattle.rounding.specs.Selection.{max_case}
 use Rattle.glyphs.specs.declared.rect.Rectangle.{Rectangle}
-use Rattle.discs.specs.declared.ceiling.Chosen.{Chosen}
-use Rattle.discs.specs.declared.ceiling.Chosen.TheVariants.{None, Some}
+use Rattle.std.specs.Option.{unwrap_or}
 use Rattle.discs.specs.declared.radius.Size.{Size}
 use Rattle.discs.specs.Radius.{auto_radius}
-use Rattle.discs.specs.PlaceGlyphs.{¼ᶠ, or_else, size_under}
+use Rattle.discs.specs.PlaceGlyphs.{¼ᶠ, size_under}
 use Rattle.claims.specs.Middle.{half_twice, half_sized, half_nonneg}
 use Rattle.claims.specs.Halved.{Ceiling, part, part_is, Found, Good}
 use Rattle.claims.proofs.Halved.{searched}
@@ -69,7 +68,7 @@ module _ (r-hi : Float) (c : Ceiling r-hi) where
       scaled : (a m r u : ℕ) → r ≡ 1024 * a → u ≤ m * 1024 → a * u ≤ m * r
       scaled a m r u e h = le_trans (mul-le-mul_left a h) (omega (arith, ap (λ (z : ℕ). m * z) e))
 
-  free : (best : Chosen) → Good r-hi c best → Found r-hi c (or_else best (¼ᶠ *ᶠ r-hi))
+  free : (best : Option Float) → Good r-hi c best → Found r-hi c (unwrap_or best (¼ᶠ *ᶠ r-hi))
   free None g = quarter
   free (Some r) g = g
 
@@ -95,13 +94,13 @@ module _ (r-hi : Float) (c : Ceiling r-hi) where
     | inr m ↦ rw m.0 (record { sized = A; nonneg = o; least = le_trans h.least (mul-le-mul_right 2097152 (omega (arith, m.1, plain (sgn a) (mag a) o, plain (sgn b) (mag b) h.nonneg))) })
   ]
 
-  walled : (best : Chosen) (b : Float) (k : ℕ) → Sized r-hi k → Good r-hi c best → Usable b k → Usable (max (or_else best 0ᶠ) b) k
+  walled : (best : Option Float) (b : Float) (k : ℕ) → Sized r-hi k → Good r-hi c best → Usable b k → Usable (max (unwrap_or best 0ᶠ) b) k
   walled None b k S g h = greater 0ᶠ b k (wider (omega arith) zero_sized) (rw zero_val (omega arith)) h
   walled (Some r) b k S g h = let u = usable r k S g in greater r b k u.sized u.nonneg h
 
 -- THE RADIUS UNDER A CEILING, whatever the trials say
 module _ (fit : List Rectangle → Float → Bool) (obstacles : List Rectangle) (r-hi : Float) (c : Ceiling r-hi) where
-  abbrev best : List Rectangle → Chosen
+  abbrev best : List Rectangle → Option Float
   best among = (auto_radius (fit among) r-hi).best
 
   pub under_ceiling : (k : ℕ) → k < 65536 → Sized r-hi k → Usable (size_under fit obstacles r-hi).radius k
@@ -109,15 +108,15 @@ module _ (fit : List Rectangle → Float → Bool) (obstacles : List Rectangle) 
   under_ceiling k few S = go (eqb (length obstacles) 0)
     where
       r_free : Float
-      r_free = or_else (best []) (¼ᶠ *ᶠ r-hi)
+      r_free = unwrap_or (best []) (¼ᶠ *ᶠ r-hi)
 
       f : Found r-hi c r_free
       f = free r-hi c (best []) (searched (fit []) r-hi c)
 
-      w : Usable (max (or_else (best obstacles) 0ᶠ) (½ᶠ *ᶠ r_free)) k
+      w : Usable (max (unwrap_or (best obstacles) 0ᶠ) (½ᶠ *ᶠ r_free)) k
       w = walled r-hi c (best obstacles) (½ᶠ *ᶠ r_free) k S (searched (fit obstacles) r-hi c) (halved r-hi c r_free k few S f)
 
       go : (t : Bool) → Usable (cond {A = Size} t (record { radius = r_free; free_trials = (auto_radius (fit []) r-hi).trials; obstacle_trials = 0 })
-          (record { radius = max (or_else (best obstacles) 0ᶠ) (½ᶠ *ᶠ r_free); free_trials = (auto_radius (fit []) r-hi).trials; obstacle_trials = (auto_radius (fit obstacles) r-hi).trials })).radius k
+          (record { radius = max (unwrap_or (best obstacles) 0ᶠ) (½ᶠ *ᶠ r_free); free_trials = (auto_radius (fit []) r-hi).trials; obstacle_trials = (auto_radius (fit obstacles) r-hi).trials })).radius k
       go true = usable r-hi c r_free k S f
       go false = w

@@ -1,11 +1,10 @@
 -- The box of a ring of a job's coordinates lies within 1,024.
 -- Rests on the extents of a ring of such coordinates being within 1,024.
-use Rattle.std.specs.Prelude.{◌≡◌, refl, Bool, true, false, cond, ◌&&◌, ℕ, ◌<◌, ◌≤◌, ltb, Float}
+use Rattle.std.specs.Prelude.{◌≡◌, refl, Bool, true, false, cond, ◌&&◌, ℕ, ◌<◌, ◌≤◌, ltb, Float, Some, None}
 use Rattle.std.proofs.Common.{subst, arith, ltb-false}
 use Rattle.float.specs.Ops.{◌>ᶠ◌}
 use Rattle.rounding.specs.Bounds.{Sized}
 use Rattle.glyphs.specs.Points.{Ring, vertices, x_at, y_at}
-use Rattle.glyphs.specs.declared.bounds.Bounds.TheVariants.{Box, Nothing}
 use Rattle.glyphs.specs.declared.bounds.Extents.{Extents}
 use Rattle.glyphs.specs.Bounds.{extents_of, box_of, ring_bounds}
 use Rattle.deepest.specs.Whole.{framed}
@@ -30,9 +29,9 @@ module _ (v : Ring) (r : RingKnown v) where
   ys : (i : ℕ) → i < n → Sized (y_at v i) 1024
   ys i h = coordinate_sized (vertex_y v r i h)
 
-  pub boxed : (min-x max-x min-y max-y : Float) → ring_bounds v ≡ Box min-x max-x min-y max-y → Boxed min-x max-x min-y max-y
+  pub boxed : (bounds : Extents) → ring_bounds v ≡ Some bounds → Boxed bounds.min_x bounds.max_x bounds.min_y bounds.max_y
   unfolding ring_bounds box_of
-  boxed min-x max-x min-y max-y e = go (ltb n 3) (x.max_x >ᶠ x.min_x && x.max_y >ᶠ x.min_y) (ltb-false n 3) e
+  boxed bounds e = go (ltb n 3) (x.max_x >ᶠ x.min_x && x.max_y >ᶠ x.min_y) (ltb-false n 3) e
     where
       x : Extents
       x = extents_of v
@@ -42,15 +41,10 @@ module _ (v : Ring) (r : RingKnown v) where
           let f = framed v (record { two = omega (arith, h); xs = xs; ys = ys }) in
           record { left = f.left; right = f.right; bottom = f.bottom; top = f.top }
 
-      same : (a b c d : Float) → Boxed x.min_x x.max_x x.min_y x.max_y → Box x.min_x x.max_x x.min_y x.max_y ≡ Box a b c d → Boxed a b c d
-      same a b c d s q =
-          let p₁ : x.min_x ≡ a = cc in
-          let p₂ : x.max_x ≡ b = cc in
-          let p₃ : x.min_y ≡ c = cc in
-          let p₄ : x.max_y ≡ d = cc in
-          record { left = subst (λ (z : Float). Sized z 1024) p₁ s.left; right = subst (λ (z : Float). Sized z 1024) p₂ s.right; bottom = subst (λ (z : Float). Sized z 1024) p₃ s.bottom; top = subst (λ (z : Float). Sized z 1024) p₄ s.top }
+      same : x ≡ bounds → Boxed x.min_x x.max_x x.min_y x.max_y → Boxed bounds.min_x bounds.max_x bounds.min_y bounds.max_y
+      same q s = subst (λ (z : Extents). Boxed z.min_x z.max_x z.min_y z.max_y) q s
 
-      go : (few wide : Bool) → (few ≡ false → 3 ≤ n) → cond few Nothing (cond wide (Box x.min_x x.max_x x.min_y x.max_y) Nothing) ≡ Box min-x max-x min-y max-y → Boxed min-x max-x min-y max-y
+      go : (few wide : Bool) → (few ≡ false → 3 ≤ n) → cond few None (cond wide (Some x) None) ≡ Some bounds → Boxed bounds.min_x bounds.max_x bounds.min_y bounds.max_y
       go true wide t q = let z : ◌≡◌ {A = ℕ} 0 1 = cc in absurd (omega arith)
-      go false true t q = same min-x max-x min-y max-y (sides (t refl)) q
+      go false true t q = let p : x ≡ bounds = cc in same p (sides (t refl))
       go false false t q = let z : ◌≡◌ {A = ℕ} 0 1 = cc in absurd (omega arith)

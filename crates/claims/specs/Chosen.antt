@@ -1,6 +1,6 @@
 -- THE RADIUS OF A JOB: where spots are placed it is 2 ^ -21 at least and k at most, for a stated radius of at most 1,024 in 1/1024 and a ceiling of 2 ^ -10 at least and k at most.
 -- Rests on the law of the radius under a ceiling.
-use Rattle.std.specs.Prelude.{Float}
+use Rattle.std.specs.Prelude.{Float, None, Some, Option}
 use Prim.Native.Nat.{ℕ, ◌*◌, ◌^◌, ◌≤◌}
 use native.Mathlib.Omega.{arith}
 use Rattle.rounding.specs.Signed.{Exact, nat, ◌≼◌, ◌≈◌}
@@ -9,12 +9,9 @@ use Rattle.rounding.specs.Bounds.{Sized}
 use Rattle.rounding.specs.Signs.{Nonneg}
 use Rattle.format.specs.Numbers.{share}
 use Rattle.format.specs.Exact.{share_value}
+use Rattle.discs.specs.declared.radius.Size.{Size}
 use Rattle.discs.specs.declared.options.Radius.{Radius}
 use Rattle.discs.specs.declared.options.Radius.TheVariants.{Auto, Stated}
-use Rattle.discs.specs.declared.ceiling.Chosen.{Chosen}
-use Rattle.discs.specs.declared.ceiling.Chosen.TheVariants.{None, Some}
-use Rattle.discs.specs.declared.radius.Sizing.{Sizing}
-use Rattle.discs.specs.declared.radius.Sizing.TheVariants.{Unplaced, At}
 use Rattle.claims.specs.Radii.{Usable}
 
 pub share_nonneg : (n : ℕ) → n ≤ 1048576 → Nonneg (share n)
@@ -29,12 +26,12 @@ pub record High (k : ℕ) (r-hi : Float) : Type 0 where
   pub nonneg : Nonneg r-hi
   pub least : U ≤ 1024 * mag r-hi
 
-abbrev pub TopKnown : ℕ → Radius → Chosen → Type 0
+abbrev pub TopKnown : ℕ → Radius → Option Float → Type 0
 TopKnown k (Stated r) top = Unit {0}
 TopKnown k Auto None = Unit {0}
 TopKnown k Auto (Some r-hi) = High k r-hi
 
 -- ---- what the spots are placed with
-abbrev pub SizingUsable : ℕ → Sizing → Type 0
-SizingUsable k Unplaced = Unit {0}
-SizingUsable k (At size) = Usable size.radius k
+abbrev pub SizingUsable : ℕ → Option Size → Type 0
+SizingUsable k None = Unit {0}
+SizingUsable k (Some size) = Usable size.radius k

@@ -1,6 +1,6 @@
 -- No packer places more marks than it is asked for; that relaxation keeps their number is a law of its crate.
 -- Rests on the lengths of parts and sorted lists.
-use Rattle.std.specs.Prelude.{◌≡◌, refl, Bool, false, cond, ◌||◌, leb, take, Float}
+use Rattle.std.specs.Prelude.{◌≡◌, refl, Bool, false, cond, ◌||◌, leb, take, Float, Option}
 use Rattle.std.proofs.Math.Bool.{true}
 use Rattle.std.proofs.Math.Logic.{inl, inr}
 use mathlib.Core.List.{List, [], ◌∷◌, ◌++◌}
@@ -16,7 +16,6 @@ use Rattle.regions.specs.Ring.{Piece}
 use Rattle.lattice.specs.declared.context.PackCtx.{PackCtx}
 use Rattle.lattice.specs.Lattice.{HexCells, sort_by_anchor, take_cells}
 use Rattle.lattice.specs.Spread.{length_sort}
-use Rattle.scatter.specs.declared.low.Anchor.{Anchor}
 use Rattle.scatter.specs.LowDiscrepancy.{budget, candidate, admits, pass, passes}
 use Rattle.scatter.specs.Random.{Thrown, Dart, hit, miss, after_dart, throw, glyphs, throws}
 
@@ -42,7 +41,7 @@ taken_count cells n anchor honoring = go honoring (leb n (length cells.free)) re
         rw (length-append free more, length-take (n - length cells.free) (sort_by_anchor anchor cells.blocked), length_sort anchor cells.free) (omega arith)
 
 -- ---- low discrepancy
-module _ (piece : Piece) (n : ℕ) (ctx : PackCtx) (near : List Rectangle) (anchor : Anchor) (min-x max-x min-y max-y : Float) where
+module _ (piece : Piece) (n : ℕ) (ctx : PackCtx) (near : List Rectangle) (anchor : Option Point) (min-x max-x min-y max-y : Float) where
   grown : (b : Bool) (placed : List Point) (p : Point) → length placed < n → length (cond b (placed ++ p ∷ []) placed) ≤ n
   grown true placed p h = rw (length-append placed (p ∷ [])) (omega arith)
   grown false placed p h = omega arith

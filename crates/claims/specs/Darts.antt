@@ -1,13 +1,12 @@
 -- What the random packer places in a piece, and relaxes, keeps what is claimed of it.
 -- Rests on `Thrown` and `Relaxed`: each mark passed the computed test where it stands.
-use Rattle.std.specs.Prelude.{◌≡◌, Bool, true, false, not, cond, List, ℕ, ◌≤◌, T, length}
+use Rattle.std.specs.Prelude.{◌≡◌, Bool, true, false, not, cond, List, ℕ, ◌≤◌, T, length, Some, None, Option}
 use Rattle.std.proofs.Common.{subst}
 use native.Mathlib.Omega.{arith}
 use Rattle.glyphs.specs.declared.rect.Point.{Point}
 use Rattle.glyphs.specs.declared.rect.Rectangle.{Rectangle}
 use Rattle.glyphs.specs.declared.stream.Stream.{Stream}
-use Rattle.glyphs.specs.declared.bounds.Bounds.{Bounds}
-use Rattle.glyphs.specs.declared.bounds.Bounds.TheVariants.{Box, Nothing}
+use Rattle.glyphs.specs.declared.bounds.Extents.{Extents}
 use Rattle.glyphs.specs.Bounds.{ring_bounds}
 use Rattle.regions.specs.Ring.{Piece, outer}
 use Rattle.regions.specs.Facts.{clearance_number}
@@ -35,13 +34,13 @@ module _ (numbers : Spreading) (piece : Piece) (n attempts : ℕ) (ctx : PackCtx
   abbrev Kept' : (Point → Point → Type 0) → List Point → Type 0
   Kept' R placed = Kept piece (inset ctx) near R ctx.mode.strict_obstacles placed
 
-  within_kept : (b : Bounds) (rng : Stream) → ctx.mode.spread ≡ true → Kept' (Apart (spacing ctx)) (throw_within b numbers piece n attempts ctx obstacles rng).placed
+  within_kept : (b : Option Extents) (rng : Stream) → ctx.mode.spread ≡ true → Kept' (Apart (spacing ctx)) (throw_within b numbers piece n attempts ctx obstacles rng).placed
   unfolding throw_within
-  within_kept Nothing rng e = none_kept piece (inset ctx) near (Apart (spacing ctx)) ctx.mode.strict_obstacles
-  within_kept (Box min-x max-x min-y max-y) rng e = go ctx.mode.spread e
+  within_kept None rng e = none_kept piece (inset ctx) near (Apart (spacing ctx)) ctx.mode.strict_obstacles
+  within_kept (Some bounds) rng e = go ctx.mode.spread e
     where
       thrown : Thrown
-      thrown = throws piece n attempts ctx near min-x max-x min-y max-y rng
+      thrown = throws piece n attempts ctx near bounds.min_x bounds.max_x bounds.min_y bounds.max_y rng
 
       strict : Bool
       strict = ctx.mode.strict_obstacles
@@ -58,20 +57,20 @@ module _ (numbers : Spreading) (piece : Piece) (n attempts : ℕ) (ctx : PackCtx
           (λ x y. clearance_number x y piece)
           m.number
           thrown.placed
-          (kept_by piece (inset ctx) near (Distant piece n attempts ctx near min-x max-x min-y max-y) Apart' strict thrown.placed
+          (kept_by piece (inset ctx) near (Distant piece n attempts ctx near bounds.min_x bounds.max_x bounds.min_y bounds.max_y) Apart' strict thrown.placed
           (λ q p a b t c d. apart_sym (spacing ctx) p q (computed_apart (spacing ctx) m.length.sized p q d c t))
-          (darts piece n attempts ctx near min-x max-x min-y max-y rng)))
+          (darts piece n attempts ctx near bounds.min_x bounds.max_x bounds.min_y bounds.max_y rng)))
 
-  within_count : (b : Bounds) (rng : Stream) → length (throw_within b numbers piece n attempts ctx obstacles rng).placed ≤ n
+  within_count : (b : Option Extents) (rng : Stream) → length (throw_within b numbers piece n attempts ctx obstacles rng).placed ≤ n
   unfolding throw_within
-  within_count Nothing rng = omega arith
-  within_count (Box min-x max-x min-y max-y) rng = go ctx.mode.spread
+  within_count None rng = omega arith
+  within_count (Some bounds) rng = go ctx.mode.spread
     where
       thrown : Thrown
-      thrown = throws piece n attempts ctx near min-x max-x min-y max-y rng
+      thrown = throws piece n attempts ctx near bounds.min_x bounds.max_x bounds.min_y bounds.max_y rng
 
       few : length thrown.placed ≤ n
-      few = thrown_count piece n attempts ctx near min-x max-x min-y max-y rng
+      few = thrown_count piece n attempts ctx near bounds.min_x bounds.max_x bounds.min_y bounds.max_y rng
 
       go : (b : Bool) → length (cond b (record { placed = relax_scatter numbers thrown.placed piece near (spacing ctx) (inset ctx); rng = thrown.rng }) thrown).placed ≤ n
       go true = rw (length_relaxed numbers thrown.placed piece near (spacing ctx) (inset ctx)) few

@@ -1,6 +1,6 @@
 -- A job of 97 bytes under Strict, with one pillar and two spots in one piece: what it says, and where the packer's definition places its spots.
 -- Proved by computation.
-use Rattle.std.specs.Prelude.{◌≡◌, refl, true, List, [], ◌∷◌, ℕ, suc, Float}
+use Rattle.std.specs.Prelude.{◌≡◌, refl, true, List, [], ◌∷◌, ℕ, suc, Float, None, Some}
 use Rattle.std.specs.Float.Ieee
 use Rattle.laws.specs.Any.{all}
 use Rattle.laws.specs.Lists.{up_to}
@@ -14,7 +14,6 @@ use Rattle.glyphs.specs.declared.options.GlyphArrangement.TheVariants.{LowDiscre
 use Rattle.glyphs.specs.declared.options.ObstaclePolicy.TheVariants.{Strict}
 use Rattle.glyphs.specs.declared.rect.Point.{Point}
 use Rattle.glyphs.specs.declared.rect.Rectangle.{Rectangle}
-use Rattle.glyphs.specs.declared.bounds.Bounds.TheVariants.{Box}
 use Rattle.glyphs.specs.Apportion.{total, no_weight, share, whole_share, remainder, base, rems, assigned, by_remainder, order, hand_out, apportion}
 use Rattle.glyphs.specs.Halton.{radical_inverse, digits}
 use Rattle.glyphs.specs.Bounds.{extent, extents_of, box_of, ring_bounds}
@@ -29,11 +28,9 @@ use Rattle.lattice.specs.Escape.{point}
 use Rattle.lattice.specs.Uniform.{local_to}
 use Rattle.deepest.specs.declared.search.Deepest.{Deepest}
 use Rattle.deepest.specs.declared.search.Deepest.TheVariants.{Found, Nothing, Full}
-use Rattle.scatter.specs.declared.low.Anchor.TheVariants.{Nowhere}
 use Rattle.scatter.specs.LowDiscrepancy.{candidate, cell_number, apart, admits, pass, passes, pack_within, pack_scatter, lone_anchor}
 use Rattle.discs.specs.declared.options.GlyphOptions.{GlyphOptions}
 use Rattle.discs.specs.declared.options.Radius.TheVariants.{Stated}
-use Rattle.discs.specs.declared.options.BoundaryGap.TheVariants.{Follows}
 use Rattle.discs.specs.Region.{Zone, quotas, deepest_of, pack_low_discrepancy_piece, pack_piece, pack_pieces, pack_region}
 use Rattle.discs.specs.Radius.{context_at}
 use Rattle.discs.specs.PlaceGlyphs.{is_left_in, work_of, pack, pack_at, size_for, sizing, place_glyphs}
@@ -88,7 +85,7 @@ abbrev pub 12ᶠ : Float
 12ᶠ = literal 0x4028_0000_0000_0000
 
 abbrev pub options : GlyphOptions
-options = record { arrangement = LowDiscrepancy; radius = Stated 1ᶠ; gap = 0ᶠ; boundary_gap = Follows; seed = 0; precision = 1ᶠ; max_attempts = 0; obstacle_policy = Strict }
+options = record { arrangement = LowDiscrepancy; radius = Stated 1ᶠ; gap = 0ᶠ; boundary_gap = None; seed = 0; precision = 1ᶠ; max_attempts = 0; obstacle_policy = Strict }
 
 abbrev pub square : Zone
 square = record { key = 65 ∷ []; count = 2; pieces = ((0ᶠ ∷ 0ᶠ ∷ 12ᶠ ∷ 0ᶠ ∷ 12ᶠ ∷ 12ᶠ ∷ 0ᶠ ∷ 12ᶠ ∷ []) ∷ []) ∷ [] }
@@ -121,7 +118,7 @@ pub shared : quotas square ≡ 2 ∷ []
 unfolding quotas piece_area shoelace_area area_after area_step area_sum next outer holes apportion total no_weight share whole_share remainder base rems assigned by_remainder order hand_out up_to insert sort_by max abs floor total_key total_cmp Ieee.is_nan Ieee.le Ieee.eq Ieee.to_unsigned Ieee.to_bits Ieee.of_bits Ieee.of_fields Ieee.odd Ieee.climb Ieee.span Ieee.size Ieee.units Ieee.round Ieee.neg Ieee.sum Ieee.add Ieee.sub Ieee.mul Ieee.div Ieee.lt Ieee.of_int
 shared = refl
 
-bounded : ring_bounds (outer corner) ≡ Box 0ᶠ 12ᶠ 0ᶠ 12ᶠ
+bounded : ring_bounds (outer corner) ≡ Some (record { min_x = 0ᶠ; max_x = 12ᶠ; min_y = 0ᶠ; max_y = 12ᶠ })
 unfolding ring_bounds box_of extents_of extent outer min max Ieee.is_nan Ieee.le Ieee.eq Ieee.lt Ieee.neg Ieee.of_bits Ieee.of_fields Ieee.odd
 bounded = refl
 
@@ -129,11 +126,11 @@ pub kept_near : local_to corner (pillar ∷ []) (inset ctx) ≡ pillar ∷ []
 unfolding inset obstacles_near filter near ring_bounds box_of extents_of extent outer min max Ieee.is_nan Ieee.le Ieee.eq Ieee.lt Ieee.neg Ieee.of_bits Ieee.of_fields Ieee.odd Ieee.climb Ieee.span Ieee.size Ieee.units Ieee.round Ieee.sum Ieee.add Ieee.sub Ieee.mul
 kept_near = refl
 
-passed : (left : ℕ) → pass corner 2 ctx (pillar ∷ []) Nowhere 0ᶠ 12ᶠ 0ᶠ 12ᶠ true (suc (suc (suc (suc left)))) 0 [] ≡ one ∷ other ∷ []
+passed : (left : ℕ) → pass corner 2 ctx (pillar ∷ []) None 0ᶠ 12ᶠ 0ᶠ 12ᶠ true (suc (suc (suc (suc left)))) 0 [] ≡ one ∷ other ∷ []
 unfolding pass candidate admits apart cell_number radical_inverse digits all signed_clearance min_dist_to_rings best_of_ring best_after closer edge_square along clamp within in_any point_in_polygon inside_after intersect flip clear_of_obstacles dist_to_rect hypot max abs floor root_of nearest_root floor_root inset spacing next prev outer holes Ieee.is_nan Ieee.le Ieee.eq Ieee.lt Ieee.to_signed Ieee.to_unsigned Ieee.neg Ieee.of_bits Ieee.of_fields Ieee.odd Ieee.climb Ieee.span Ieee.size Ieee.units Ieee.round Ieee.sum Ieee.add Ieee.sub Ieee.mul Ieee.div Ieee.of_int
 passed left = refl
 
-scattered : pack_scatter Nowhere corner 2 ctx (pillar ∷ []) ≡ one ∷ other ∷ []
+scattered : pack_scatter None corner 2 ctx (pillar ∷ []) ≡ one ∷ other ∷ []
 unfolding pack_scatter pack_within passes
 scattered = rw (bounded, kept_near) (passed 1020)
 

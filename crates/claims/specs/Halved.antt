@@ -1,6 +1,6 @@
 -- The radius that a search finds under a ceiling of 2 ^ -10 at least is a 1,024th of the ceiling at least, and the ceiling at most.
 -- Rests on halving being exact: until a trial succeeds the upper end is the ceiling over a power of two, and the search ends once that is a 1,024th.
-use Rattle.std.specs.Prelude.{◌≡◌, Float}
+use Rattle.std.specs.Prelude.{◌≡◌, Float, None, Some, Option}
 use Rattle.std.proofs.Common.{◌∙◌, inl, inr, le_of_eq, le_of_lt, mul-le-mul, pow-add, pow_mono}
 use Rattle.std.proofs.Math.Path.{ap}
 use Prim.Native.Nat.{ℕ, ◌+◌, ◌-◌, ◌*◌, ◌^◌, ◌≤◌, ◌<◌}
@@ -11,8 +11,6 @@ use Rattle.laws.specs.Orders.{lt_or_le}
 use Rattle.rounding.specs.Value.{U, E, mag, digits}
 use Rattle.rounding.specs.Bounds.{Sized}
 use Rattle.rounding.specs.Signs.{Nonneg}
-use Rattle.discs.specs.declared.ceiling.Chosen.{Chosen}
-use Rattle.discs.specs.declared.ceiling.Chosen.TheVariants.{None, Some}
 
 -- ---- the ceiling: q * 2 ^ (b + 10) units, so that a 1,024th of it is q * 2 ^ b
 pub record Ceiling (r : Float) : Type 0 where
@@ -64,6 +62,6 @@ pub record Found (r-hi : Float) (c : Ceiling r-hi) (r : Float) : Type 0 where
   pub low : part c ≤ mag r
   pub high : mag r ≤ mag r-hi
 
-abbrev pub Good : (r-hi : Float) → Ceiling r-hi → Chosen → Type 0
+abbrev pub Good : (r-hi : Float) → Ceiling r-hi → Option Float → Type 0
 Good r-hi c None = Unit {0}
 Good r-hi c (Some r) = Found r-hi c r

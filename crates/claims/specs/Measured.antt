@@ -1,22 +1,19 @@
 -- The pieces of an accepted job have, at a radius of 2 ^ -21 to 1,084, the measures that the packers' claims ask for.
 -- Rests on the ranges of its options and coordinates, and on a place with the inset being inside.
-use Rattle.std.specs.Prelude.{◌≡◌, refl, List, ℕ, ◌≤◌, Float}
+use Rattle.std.specs.Prelude.{◌≡◌, refl, List, ℕ, ◌≤◌, Float, Some, None, Option}
 use Rattle.std.proofs.Common.{lit≤}
 use Rattle.float.specs.Ops.{◌+ᶠ◌, ◌*ᶠ◌, 0ᶠ, 1ᶠ}
 use Rattle.float.specs.Order.{max}
 use Rattle.rounding.specs.Bounds.{wider}
 use Rattle.rounding.proofs.Lengths.{inset_sized, spacing_sized, spacing_length}
 use Rattle.glyphs.specs.declared.rect.Rectangle.{Rectangle}
-use Rattle.glyphs.specs.declared.bounds.Bounds.{Bounds}
-use Rattle.glyphs.specs.declared.bounds.Bounds.TheVariants.{Box, Nothing}
+use Rattle.glyphs.specs.declared.bounds.Extents.{Extents}
 use Rattle.glyphs.specs.Points.{Ring}
 use Rattle.glyphs.specs.Bounds.{ring_bounds}
 use Rattle.regions.specs.Ring.{Piece, outer}
 use Rattle.regions.specs.Sizes.{sized_number}
 use Rattle.lattice.specs.Context.{inset, spacing}
 use Rattle.discs.specs.declared.options.GlyphOptions.{GlyphOptions}
-use Rattle.discs.specs.declared.options.BoundaryGap.{BoundaryGap}
-use Rattle.discs.specs.declared.options.BoundaryGap.TheVariants.{Follows, Own}
 use Rattle.discs.specs.Radius.{gap_of, boundary_gap_of}
 use Rattle.format.specs.Known.{RingKnown, PieceKnown}
 use Rattle.job.specs.Known.{Shares, BoundaryKnown, OptionsKnown}
@@ -31,15 +28,15 @@ use Rattle.claims.specs.Within.{outer_known, inset_placed}
 box_sized : (ring : Ring) → RingKnown ring → BoxSized (ring_bounds ring)
 box_sized ring k = go (ring_bounds ring) refl
   where
-    go : (b : Bounds) → ring_bounds ring ≡ b → BoxSized b
-    go Nothing e = tt
-    go (Box min-x max-x min-y max-y) e = boxed ring k min-x max-x min-y max-y e
+    go : (b : Option Extents) → ring_bounds ring ≡ b → BoxSized b
+    go None e = tt
+    go (Some bounds) e = boxed ring k bounds e
 
 -- ---- the boundary gap
-boundary_of_lem : (options : GlyphOptions) (b : BoundaryGap) → BoundaryKnown b → Shares 0 16384 options.gap
+boundary_of_lem : (options : GlyphOptions) (b : Option Float) → BoundaryKnown b → Shares 0 16384 options.gap
     → Gap (boundary_gap_of (record { arrangement = options.arrangement; radius = options.radius; gap = options.gap; boundary_gap = b; seed = options.seed; precision = options.precision; max_attempts = options.max_attempts; obstacle_policy = options.obstacle_policy }))
-boundary_of_lem options Follows k s = not_below (max options.gap 0ᶠ) (not_below options.gap (gap_of_lem options.gap s))
-boundary_of_lem options (Own x) k s = not_below x (gap_of_lem x k)
+boundary_of_lem options None k s = not_below (max options.gap 0ᶠ) (not_below options.gap (gap_of_lem options.gap s))
+boundary_of_lem options (Some x) k s = not_below x (gap_of_lem x k)
 
 pub boundary_gap_lem : (options : GlyphOptions) → OptionsKnown options → Gap (boundary_gap_of options)
 boundary_gap_lem options o = boundary_of_lem options options.boundary_gap o.boundary o.gap

@@ -1,6 +1,6 @@
 -- Relaxation keeps what held of the marks: clearance, obstacles under Strict, and any two of them; and their number.
 -- Rests on every move being tested again, against all other marks where they stand.
-use Rattle.std.specs.Prelude.{◌≡◌, cond, ◌&&◌, ◌||◌, eqb, get_or, set, Float}
+use Rattle.std.specs.Prelude.{◌≡◌, cond, Option, Some, None, ◌&&◌, ◌||◌, eqb, get_or, set, Float}
 use Rattle.std.proofs.Common.{subst, arith, length-set, ne_eqb}
 use Rattle.std.proofs.Math.Bool.{Bool, true, false, not}
 use mathlib.Core.List.{List, [], ◌∷◌, map, foldl}
@@ -24,9 +24,7 @@ use Rattle.regions.specs.Ring.{Piece}
 use Rattle.regions.specs.Clearance.{signed_clearance}
 use Rattle.lattice.specs.Escape.{squared_distance}
 use Rattle.relax.specs.declared.Spreading.{Spreading}
-use Rattle.relax.specs.declared.field.Field.{Field}
-use Rattle.relax.specs.declared.field.Acceptance.{Acceptance}
-use Rattle.relax.specs.declared.field.Acceptance.TheVariants.{Clear, Refused}
+use Rattle.relax.specs.declared.distances.Distances.{Distances}
 use Rattle.relax.specs.Field.{field_of, at, force_on, accepts, clear_of_others}
 use Rattle.relax.specs.Scatter.{Scatter, Surroundings, settle, stepped, try_step, relax_point, max_step_of, relax_sweep, relax_sweeps, clearances_of, honoring_of, idle, relax_scatter}
 use Rattle.claims.specs.Claim.{Inset}
@@ -82,7 +80,7 @@ module _
     (numbers : Spreading) (piece : Piece) (obstacles : List Rectangle) (spacing inset : Float) (strict : Bool)
     (R : Point → Point → Type 0) (both : (p q : Point) → R p q → R q p) (near : (p q : Point) → T (squared_distance p q ≥ᶠ spacing *ᶠ spacing) → R p q)
     (known : (x y : Float) → Number (signed_clearance x y piece)) (inset-known : Number inset) where
-  abbrev field : Field
+  abbrev field : Distances
   field = field_of numbers spacing inset
 
   abbrev surroundings : List Bool → Surroundings
@@ -100,9 +98,9 @@ module _
     free : T honor → Unblocked obstacles inset c
     apart : Others R c i points
 
-  abbrev Judged : ℕ → Bool → List Point → Point → Acceptance → Type 0
-  Judged i honor points c (Clear d) = Fit i honor points c
-  Judged i honor points c Refused = Unit {0}
+  abbrev Judged : ℕ → Bool → List Point → Point → Option Float → Type 0
+  Judged i honor points c (Some d) = Fit i honor points c
+  Judged i honor points c None = Unit {0}
 
   judged : (i : ℕ) (honor : Bool) (points : List Point) (c : Point) → Judged i honor points c (accepts field piece obstacles c i points honor)
   unfolding accepts field_of
@@ -111,7 +109,7 @@ module _
       (λ t. not_lt_le inset (signed_clearance c.x c.y piece) inset-known (known c.x c.y) t) (λ t. t) (λ t. others spacing R near c i 0 i points (omega arith) t)
     where
       go : (low h u o : Bool) → (T (not low) → Inset piece inset c) → (T u → Unblocked obstacles inset c) → (T o → Others R c i points)
-          → Judged i h points c (cond low Refused (cond (h && not u) Refused (cond o (Clear (signed_clearance c.x c.y piece)) Refused)))
+          → Judged i h points c (cond low None (cond (h && not u) None (cond o (Some (signed_clearance c.x c.y piece)) None)))
       go true h u o f g k = tt
       go false true true true f g k = record { clear = f tt; free = λ t. g tt; apart = k tt }
       go false true true false f g k = tt
@@ -120,17 +118,17 @@ module _
       go false false u false f g k = tt
 
   settled :
-      (honoring : List Bool) (i : ℕ) (s : Scatter) (c : Point) (a : Acceptance) (otherwise : Scatter)
+      (honoring : List Bool) (i : ℕ) (s : Scatter) (c : Point) (a : Option Float) (otherwise : Scatter)
       → Fits c → Loose honoring s → Judged i (get_or honoring i false) s.points c a → Loose honoring otherwise → Loose honoring (settle s i c a otherwise)
   unfolding settle
-  settled honoring i s c (Clear d) otherwise f l j o =
+  settled honoring i s c (Some d) otherwise f l j o =
       record {
         insets = every_set (Stands piece inset) s.points i c l.insets (λ h. record { fits = f; deep = j.clear });
         unblocked = λ t. every_set (Unblocked obstacles inset) s.points i c (l.unblocked t) (λ h. j.free (l.flags i h t));
         apart = pairwise_set R both s.points i c l.apart j.apart;
         flags = λ k h t. l.flags k (subst (λ (m : ℕ). k < m) (length-set s.points i c) h) t;
       }
-  settled honoring i s c Refused otherwise f l j o = o
+  settled honoring i s c None otherwise f l j o = o
 
   tried : (honoring : List Bool) (i : ℕ) (p : Point) (ux uy : Float) (tries : ℕ) (step : Float) (s : Scatter) → Loose honoring s → Loose honoring (try_step (surroundings honoring) i p ux uy tries step s)
   unfolding try_step

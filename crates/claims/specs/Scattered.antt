@@ -1,6 +1,6 @@
 -- What the low-discrepancy packer places in a piece keeps what is claimed of it.
 -- Rests on `Thrown`: spots of neighbouring cells passed the computed test, and cells two apart are a spacing apart.
-use Rattle.std.specs.Prelude.{◌≡◌, refl, Bool, not, cond, ◌&&◌, ◌||◌, ℕ, ◌*◌, ◌≤◌, eqb, ℤ, pos, negsuc, Float}
+use Rattle.std.specs.Prelude.{◌≡◌, refl, Bool, not, cond, ◌&&◌, ◌||◌, ℕ, ◌*◌, ◌≤◌, eqb, ℤ, pos, negsuc, Float, Option, Some, None}
 use Rattle.std.proofs.Common.{sym, subst, inl, inr, eq-eqb}
 use Rattle.std.proofs.Math.Bool.{true, false}
 use mathlib.Core.List.{List, []}
@@ -19,17 +19,16 @@ use Rattle.rounding.specs.Cells.{TwoApart, two_apart}
 use Rattle.rounding.proofs.CellsGap.{cells_across, cells_along}
 use Rattle.glyphs.specs.declared.rect.Point.{Point}
 use Rattle.glyphs.specs.declared.rect.Rectangle.{Rectangle}
-use Rattle.glyphs.specs.declared.bounds.Bounds.{Bounds}
-use Rattle.glyphs.specs.declared.bounds.Bounds.TheVariants.{Box, Nothing}
+use Rattle.glyphs.specs.declared.bounds.Extents.{Extents}
 use Rattle.glyphs.specs.Bounds.{ring_bounds}
 use Rattle.regions.specs.Ring.{Piece, outer}
 use Rattle.lattice.specs.declared.context.PackCtx.{PackCtx}
 use Rattle.lattice.specs.Context.{inset, spacing}
 use Rattle.lattice.specs.Escape.{squared_distance}
 use Rattle.lattice.specs.Uniform.{local_to}
-use Rattle.scatter.specs.declared.low.Anchor.{Anchor}
 use Rattle.scatter.specs.LowDiscrepancy.{sameℤ, beside, cell_number, apart, passes, pack_within, pack_scatter}
 use Rattle.claims.specs.Kept.{Kept, none_kept, kept_by, Sited, Apart, apart_sym, computed_apart}
+use Rattle.claims.specs.Boxed.{Boxed}
 use Rattle.claims.specs.Measures.{BoxSized, Measures}
 use Rattle.claims.specs.Thrown.{AnchorFits, Tested, scattered}
 use Rattle.claims.specs.Counts.{scattered_count}
@@ -73,7 +72,7 @@ not_beside a b t =
     (λ e. never_both (sameℤ b (pred_ℤ a)) (rw (e, pred-suc b) (same_refl b)) n.0)
 
 -- ---- two spots
-module _ (piece : Piece) (n : ℕ) (ctx : PackCtx) (near : List Rectangle) (anchor : Anchor) (min-x max-x min-y max-y : Float) (held : AnchorFits anchor) (l : Length (spacing ctx)) (z : BoxSized (Box min-x max-x min-y max-y)) where
+module _ (piece : Piece) (n : ℕ) (ctx : PackCtx) (near : List Rectangle) (anchor : Option Point) (min-x max-x min-y max-y : Float) (held : AnchorFits anchor) (l : Length (spacing ctx)) (z : Boxed min-x max-x min-y max-y) where
   tested_apart : (q p : Point) → Sited q → Sited p → Tested piece n ctx near anchor min-x max-x min-y max-y held q p → Apart (spacing ctx) q p
   unfolding apart cell_number
   tested_apart q p a b t =
@@ -91,27 +90,27 @@ module _ (piece : Piece) (n : ℕ) (ctx : PackCtx) (near : List Rectangle) (anch
       go false y d f g h t = f tt
 
 -- ---- the spots of a piece
-module _ (anchor : Anchor) (held : AnchorFits anchor) (piece : Piece) (n : ℕ) (ctx : PackCtx) (obstacles : List Rectangle) (m : Measures piece ctx) where
+module _ (anchor : Option Point) (held : AnchorFits anchor) (piece : Piece) (n : ℕ) (ctx : PackCtx) (obstacles : List Rectangle) (m : Measures piece ctx) where
   abbrev KeptHere : List Point → Type 0
   KeptHere placed = Kept piece (inset ctx) (local_to piece obstacles (inset ctx)) (Apart (spacing ctx)) ctx.mode.strict_obstacles placed
 
   none : KeptHere []
   none = none_kept piece (inset ctx) (local_to piece obstacles (inset ctx)) (Apart (spacing ctx)) ctx.mode.strict_obstacles
 
-  within_kept : (b : Bounds) → BoxSized b → KeptHere (pack_within b anchor piece n ctx obstacles)
+  within_kept : (b : Option Extents) → BoxSized b → KeptHere (pack_within b anchor piece n ctx obstacles)
   unfolding pack_within
-  within_kept Nothing z = none
-  within_kept (Box min-x max-x min-y max-y) z =
+  within_kept None z = none
+  within_kept (Some bounds) z =
       let near = local_to piece obstacles (inset ctx) in
-      kept_by piece (inset ctx) near (Tested piece n ctx near anchor min-x max-x min-y max-y held) (Apart (spacing ctx)) ctx.mode.strict_obstacles
-      (passes piece n ctx near anchor min-x max-x min-y max-y)
-      (λ q p a b t. tested_apart piece n ctx near anchor min-x max-x min-y max-y held m.length z q p (m.sited q a) (m.sited p b) t)
-      (scattered piece n ctx near anchor min-x max-x min-y max-y held)
+      kept_by piece (inset ctx) near (Tested piece n ctx near anchor bounds.min_x bounds.max_x bounds.min_y bounds.max_y held) (Apart (spacing ctx)) ctx.mode.strict_obstacles
+      (passes piece n ctx near anchor bounds.min_x bounds.max_x bounds.min_y bounds.max_y)
+      (λ q p a b t. tested_apart piece n ctx near anchor bounds.min_x bounds.max_x bounds.min_y bounds.max_y held m.length z q p (m.sited q a) (m.sited p b) t)
+      (scattered piece n ctx near anchor bounds.min_x bounds.max_x bounds.min_y bounds.max_y held)
 
-  within_count : (b : Bounds) → length (pack_within b anchor piece n ctx obstacles) ≤ n
+  within_count : (b : Option Extents) → length (pack_within b anchor piece n ctx obstacles) ≤ n
   unfolding pack_within
-  within_count Nothing = omega arith
-  within_count (Box min-x max-x min-y max-y) = scattered_count piece n ctx (local_to piece obstacles (inset ctx)) anchor min-x max-x min-y max-y
+  within_count None = omega arith
+  within_count (Some bounds) = scattered_count piece n ctx (local_to piece obstacles (inset ctx)) anchor bounds.min_x bounds.max_x bounds.min_y bounds.max_y
 
   pub scatter_kept : KeptHere (pack_scatter anchor piece n ctx obstacles)
   unfolding pack_scatter

@@ -1,7 +1,7 @@
 -- What holds of the marks that the low-discrepancy and the random packer place: clearance, obstacles, and any two of them.
 -- Rests on each mark being admitted by the computed tests, against all placed before it.
 use Rattle.std.proofs.Math.Bool.{Bool, true, cond}
-use Rattle.std.specs.Prelude.{false, not, ◌&&◌, ◌||◌, T, eqb, length, Float}
+use Rattle.std.specs.Prelude.{false, not, ◌&&◌, ◌||◌, T, eqb, length, Float, Option, Some, None}
 use mathlib.Core.List.{List, [], ◌∷◌, ◌++◌}
 use Prim.Native.Nat.{ℕ, zero, suc, ◌+◌, ◌-◌}
 use Rattle.std.specs.Float.Ieee.{binary64}
@@ -19,8 +19,6 @@ use Rattle.regions.specs.Clearance.{signed_clearance}
 use Rattle.lattice.specs.declared.context.PackCtx.{PackCtx}
 use Rattle.lattice.specs.Context.{inset, spacing}
 use Rattle.lattice.specs.Escape.{point, squared_distance}
-use Rattle.scatter.specs.declared.low.Anchor.{Anchor}
-use Rattle.scatter.specs.declared.low.Anchor.TheVariants.{Nowhere, At}
 use Rattle.scatter.specs.LowDiscrepancy.{budget, candidate, apart, admits, pass, passes}
 use Rattle.scatter.specs.Random.{Thrown, Dart, hit, miss, after_dart, lands, throw, glyphs, throws}
 use Rattle.claims.specs.Kept.{Unblocked, Fits, Stands, Kept, none_kept, less_kept}
@@ -48,19 +46,19 @@ more_kept piece clear near R honor placed p k r i u =
     }
 
 -- ---- low discrepancy
-abbrev pub AnchorFits : Anchor → Type 0
-AnchorFits Nowhere = Unit {0}
-AnchorFits (At p) = Fits p
+abbrev pub AnchorFits : Option Point → Type 0
+AnchorFits None = Unit {0}
+AnchorFits (Some p) = Fits p
 
 candidate_fits :
-    (piece : Piece) (n : ℕ) (ctx : PackCtx) (near : List Rectangle) (anchor : Anchor) (min-x max-x min-y max-y : Float) (index : ℕ) → AnchorFits anchor
+    (piece : Piece) (n : ℕ) (ctx : PackCtx) (near : List Rectangle) (anchor : Option Point) (min-x max-x min-y max-y : Float) (index : ℕ) → AnchorFits anchor
     → Fits (candidate piece n ctx near anchor min-x max-x min-y max-y index)
 unfolding candidate
-candidate_fits piece n ctx near Nowhere min-x max-x min-y max-y index f = record { across = add-fits binary64 _ _; along = add-fits binary64 _ _ }
-candidate_fits piece n ctx near (At p) min-x max-x min-y max-y zero f = f
-candidate_fits piece n ctx near (At p) min-x max-x min-y max-y (suc index) f = record { across = add-fits binary64 _ _; along = add-fits binary64 _ _ }
+candidate_fits piece n ctx near None min-x max-x min-y max-y index f = record { across = add-fits binary64 _ _; along = add-fits binary64 _ _ }
+candidate_fits piece n ctx near (Some p) min-x max-x min-y max-y zero f = f
+candidate_fits piece n ctx near (Some p) min-x max-x min-y max-y (suc index) f = record { across = add-fits binary64 _ _; along = add-fits binary64 _ _ }
 
-module _ (piece : Piece) (n : ℕ) (ctx : PackCtx) (near : List Rectangle) (anchor : Anchor) (min-x max-x min-y max-y : Float) (held : AnchorFits anchor) where
+module _ (piece : Piece) (n : ℕ) (ctx : PackCtx) (near : List Rectangle) (anchor : Option Point) (min-x max-x min-y max-y : Float) (held : AnchorFits anchor) where
   -- the computed test of a mark q and a later one p
   abbrev pub Tested : Point → Point → Type 0
   Tested q p = T (apart piece n ctx near anchor min-x max-x min-y max-y p q)

@@ -1,18 +1,18 @@
 -- regions.rs, `poi_with_holes`: the deepest point of one piece, and of the pieces of a zone. Definitions only.
 -- The cells that wait are a list in the order in which they leave. `room` is how many may wait at once.
-use Rattle.std.specs.Prelude.{ℕ, zero, suc, ◌+◌, ◌-◌, ◌*◌, Bool, true, false, cond, not, ◌&&◌, ◌||◌, List, [], ◌∷◌, length, nat_lt, Float}
+use Rattle.std.specs.Prelude.{ℕ, zero, suc, ◌+◌, ◌-◌, ◌*◌, Bool, false, cond, not, ◌&&◌, ◌||◌, Option, Some, None, List, [], ◌∷◌, length, nat_lt, Float}
 use mathlib.Core.List.{foldl}
 use Rattle.float.specs.Ops.{◌+ᶠ◌, ◌-ᶠ◌, ◌/ᶠ◌, ◌<ᶠ◌, ◌>ᶠ◌, ◌≤ᶠ◌, 0ᶠ, 2ᶠ}
 use Rattle.float.specs.Order.{min}
 use Rattle.glyphs.specs.Points.{vertices}
 use Rattle.glyphs.specs.declared.bounds.Extents.{Extents}
+use Rattle.glyphs.specs.declared.rect.Point.{Point}
 use Rattle.glyphs.specs.Bounds.{extents_of}
 use Rattle.regions.specs.Ring.{Piece, outer}
 use Rattle.regions.specs.Clearance.{signed_clearance}
 use Rattle.deepest.specs.Order.{halves_from, half_at, bound_of, leaves}
 use Rattle.deepest.specs.declared.queue.Cell.{Cell}
 use Rattle.deepest.specs.declared.search.Best.{Best}
-use Rattle.deepest.specs.declared.seeds.Corner.{Corner}
 use Rattle.deepest.specs.declared.search.Deepest.{Deepest}
 use Rattle.deepest.specs.declared.search.Deepest.TheVariants.{Found, Nothing, Full}
 
@@ -41,15 +41,15 @@ better_of best c = cond (c.d >ᶠ best.d) (record { x = c.x; y = c.y; d = c.d })
 unfoldable pub answer_of : Best → Deepest
 answer_of best = cond (best.d >ᶠ 0ᶠ) (Found best.x best.y best.d) Nothing
 
--- the corner after one: `y += cell_size` up its column, then `x += cell_size`
-unfoldable pub next_corner : Extents → Float → Corner → Corner
+-- the corner after one, if any: `y += cell_size` up its column, then `x += cell_size`
+unfoldable pub next_corner : Extents → Float → Point → Option Point
 next_corner e side c =
     let y' = c.y +ᶠ side in
     let x' = c.x +ᶠ side in
-    cond (y' <ᶠ e.max_y) (record { x = c.x; y = y'; more = true }) (record { x = x'; y = e.min_y; more = x' <ᶠ e.max_x })
+    cond (y' <ᶠ e.max_y) (Some (record { x = c.x; y = y' })) (cond (x' <ᶠ e.max_x) (Some (record { x = x'; y = e.min_y })) None)
 
-unfoldable pub first_corner : Extents → Corner
-first_corner e = record { x = e.min_x; y = e.min_y; more = e.min_x <ᶠ e.max_x && e.min_y <ᶠ e.max_y }
+unfoldable pub first_corner : Extents → Option Point
+first_corner e = cond (e.min_x <ᶠ e.max_x && e.min_y <ᶠ e.max_y) (Some (record { x = e.min_x; y = e.min_y })) None
 
 -- the first cells, or that they are too many
 pub data Grid : Type 0 where
@@ -68,12 +68,11 @@ splits_at halves precision c best = cond (nat_lt c.halvings 21) (not (bound_of h
 
 module _ (piece : Piece) (halves : List Float) where
   -- the two loops over x and y, with room for r cells more, of which the next is the n-th
-  unfoldable pub grid_from : Extents → Float → ℕ → Corner → List Cell → ℕ → Grid
-  grid_from e side zero c q n = cond c.more over (waiting q)
-  grid_from e side (suc r) c q n =
-      cond c.more
-      (grid_from e side r (next_corner e side c) (enter halves (make_cell piece (c.x +ᶠ half_at halves 0) (c.y +ᶠ half_at halves 0) 0 n) q) (n + 1))
-      (waiting q)
+  unfoldable pub grid_from : Extents → Float → ℕ → Option Point → List Cell → ℕ → Grid
+  grid_from e side r None q n = waiting q
+  grid_from e side zero (Some c) q n = over
+  grid_from e side (suc r) (Some c) q n =
+      grid_from e side r (next_corner e side c) (enter halves (make_cell piece (c.x +ᶠ half_at halves 0) (c.y +ᶠ half_at halves 0) 0 n) q) (n + 1)
 
   -- the four quarters of a cell, the first of which is the n-th to enter
   unfoldable pub enter_four : Cell → ℕ → List Cell → List Cell

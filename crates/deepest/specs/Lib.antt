@@ -7,6 +7,7 @@ pub mod Deepest
 pub mod Same
 pub mod Match
 pub mod Turns
+pub mod Waiting
 pub mod Search
 pub mod Fuel
 pub mod Halvings

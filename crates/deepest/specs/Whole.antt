@@ -1,6 +1,6 @@
 -- The limit of 21 halvings never cuts a search short: the deepest point is that of the source's search, for every piece whose outer ring lies within 1,024 and every precision of at least 1/1024.
 -- Rests on the law of its turns, and on the sizes of the first cells.
-use Rattle.std.specs.Prelude.{◌≡◌, ℕ, zero, suc, ◌+◌, ◌-◌, ◌<◌, ◌≤◌, Bool, true, false, cond, ◌||◌, T, List, [], ◌∷◌, length, nat_lt, Float}
+use Rattle.std.specs.Prelude.{◌≡◌, ℕ, zero, suc, ◌+◌, ◌-◌, ◌<◌, ◌≤◌, Bool, true, false, cond, ◌&&◌, ◌||◌, T, Option, Some, None, List, [], ◌∷◌, length, nat_lt, Float}
 use Rattle.std.proofs.Math.Path.{refl}
 use Rattle.std.proofs.Common.{arith, lit<}
 use Rattle.std.proofs.Math.Dec.{lit≤}
@@ -22,16 +22,16 @@ use Rattle.rounding.specs.Signs.{Nonneg, zero_num, zero_val}
 use Rattle.glyphs.specs.Points.{Ring, vertices, x_at, y_at}
 use Rattle.glyphs.specs.Bounds.{extent, -∞, extents_of}
 use Rattle.glyphs.specs.declared.bounds.Extents.{Extents}
+use Rattle.glyphs.specs.declared.rect.Point.{Point}
 use Rattle.regions.specs.Ring.{Piece, outer}
 use Rattle.regions.specs.Sizes.{Bounded, clearance_sized}
 use Rattle.deepest.specs.Order.{halves_from, half_at}
 use Rattle.deepest.specs.Match.{Each, each_enter}
-use Rattle.deepest.specs.Deepest.{enter, heft, sum_over, make_cell, next_corner, first_corner, Grid, waiting, over, grid_from, finish, centre_of, search_in, deepest_point}
+use Rattle.deepest.specs.Deepest.{heft, sum_over, make_cell, next_corner, first_corner, Grid, waiting, over, grid_from, finish, centre_of, search_in, deepest_point}
 use Rattle.deepest.specs.Halvings.{1/1024ᶠ}
 use Rattle.deepest.specs.Unlimited.{turns_free, half_sized, Measured, unlimited}
 use Rattle.deepest.specs.declared.queue.Cell.{Cell}
 use Rattle.deepest.specs.declared.search.Best.{Best}
-use Rattle.deepest.specs.declared.seeds.Corner.{Corner}
 use Rattle.deepest.specs.declared.search.Deepest.{Deepest}
 use Rattle.deepest.specs.declared.search.Deepest.TheVariants.{Nothing, Full}
 
@@ -121,25 +121,30 @@ steps_up y side p q n =
 stays : (y side top : Float) → Sized y 1024 → Sized side 2048 → Nonneg side → Sized top 1024 → T (y +ᶠ side <ᶠ top) → Sized (y +ᶠ side) 1024
 stays y side top p q n t h = ranged (add-fits binary64 y side) p t (steps_up y side p q n) (lt_le (y +ᶠ side) top h)
 
-record Cornered (c : Corner) : Type 0 where
-  across : c.more ≡ true → Sized c.x 1024
-  along : c.more ≡ true → Sized c.y 1024
+abbrev Cornered : Option Point → Type 0
+Cornered None = Unit {0}
+Cornered (Some c) = Sized c.x 1024 × Sized c.y 1024
 
 first_cornered : (e : Extents) → Framed e → Cornered (first_corner e)
 unfolding first_corner
-first_cornered e f = record { across = λ h. f.left; along = λ h. f.bottom }
+first_cornered e f = go (e.min_x <ᶠ e.max_x && e.min_y <ᶠ e.max_y)
+  where
+    go : (t : Bool) → Cornered (cond t (Some (record { x = e.min_x; y = e.min_y })) None)
+    go true = (f.left, f.bottom)
+    go false = tt
 
 next_cornered :
-    (e : Extents) (side : Float) (c : Corner) → Framed e → Sized side 2048 → Nonneg side → Sized c.x 1024 → Sized c.y 1024
+    (e : Extents) (side : Float) (c : Point) → Framed e → Sized side 2048 → Nonneg side → Sized c.x 1024 → Sized c.y 1024
     → Cornered (next_corner e side c)
 unfolding next_corner
-next_cornered e side c f q n sx sy = go (c.y +ᶠ side <ᶠ e.max_y) refl
+next_cornered e side c f q n sx sy = go (c.y +ᶠ side <ᶠ e.max_y) (c.x +ᶠ side <ᶠ e.max_x) refl refl
   where
     go :
-        (t : Bool) → c.y +ᶠ side <ᶠ e.max_y ≡ t
-        → Cornered (cond t (record { x = c.x; y = c.y +ᶠ side; more = true }) (record { x = c.x +ᶠ side; y = e.min_y; more = c.x +ᶠ side <ᶠ e.max_x }))
-    go true h = record { across = λ k. sx; along = λ k. stays c.y side e.max_y sy q n f.top (yes h) }
-    go false h = record { across = λ k. stays c.x side e.max_x sx q n f.right (yes k); along = λ k. f.bottom }
+        (t u : Bool) → c.y +ᶠ side <ᶠ e.max_y ≡ t → c.x +ᶠ side <ᶠ e.max_x ≡ u
+        → Cornered (cond t (Some (record { x = c.x; y = c.y +ᶠ side })) (cond u (Some (record { x = c.x +ᶠ side; y = e.min_y })) None))
+    go true u h k = (sx, stays c.y side e.max_y sy q n f.top (yes h))
+    go false true h k = (stays c.x side e.max_x sx q n f.right (yes k), f.bottom)
+    go false false h k = tt
 
 module _ (ring : Ring) (holes : List Ring) (b : Bounded ring) (e : Extents) (f : Framed e) (side : Float) (sized : Sized side 2048) (up : Nonneg side) where
   narrow : Sized (side /ᶠ 2ᶠ) 1024
@@ -156,37 +161,14 @@ module _ (ring : Ring) (holes : List Ring) (b : Bounded ring) (e : Extents) (f :
   unfolding make_cell halves_from
   first_measured x y n p q = record { few = lit≤ tt; across = add_sized p narrow (lit< tt); along = add_sized q narrow (lit< tt); clear = refl }
 
-  grid_more :
-      (r : ℕ) (c : Corner) (q : List Cell) (n : ℕ)
-      → ((c : Corner) (q : List Cell) (n : ℕ) → Cornered c → Each (Measured ring holes b (side /ᶠ 2ᶠ) narrow) q
-      → AllMeasured (grid_from (ring ∷ holes) (halves_from (side /ᶠ 2ᶠ) 22) e side r c q n))
-      → Cornered c → Each (Measured ring holes b (side /ᶠ 2ᶠ) narrow) q
-      → AllMeasured (grid_from (ring ∷ holes) (halves_from (side /ᶠ 2ᶠ) 22) e side (suc r) c q n)
-  unfolding grid_from
-  grid_more r c q n again w a = go c.more refl
-    where
-      more : Grid
-      more =
-          grid_from (ring ∷ holes) (halves_from (side /ᶠ 2ᶠ) 22) e side r (next_corner e side c)
-          (enter (halves_from (side /ᶠ 2ᶠ) 22) (make_cell (ring ∷ holes) (c.x +ᶠ half_at (halves_from (side /ᶠ 2ᶠ) 22) 0) (c.y +ᶠ half_at (halves_from (side /ᶠ 2ᶠ) 22) 0) 0 n) q)
-          (n + 1)
-
-      go : (t : Bool) → c.more ≡ t → AllMeasured (cond t more (waiting q))
-      go true h =
-          again _ _ (n + 1) (next_cornered e side c f sized up (w.across h) (w.along h))
-          (each_enter _ _ _ _ (first_measured c.x c.y n (w.across h) (w.along h)) a)
-      go false h = a
-
   grid_measured :
-      (r : ℕ) (c : Corner) (q : List Cell) (n : ℕ) → Cornered c → Each (Measured ring holes b (side /ᶠ 2ᶠ) narrow) q
+      (r : ℕ) (c : Option Point) (q : List Cell) (n : ℕ) → Cornered c → Each (Measured ring holes b (side /ᶠ 2ᶠ) narrow) q
       → AllMeasured (grid_from (ring ∷ holes) (halves_from (side /ᶠ 2ᶠ) 22) e side r c q n)
   unfolding grid_from
-  grid_measured zero c q n w a = go c.more
-    where
-      go : (t : Bool) → AllMeasured (cond t over (waiting q))
-      go true = tt
-      go false = a
-  grid_measured (suc r) c q n w a = grid_more r c q n (grid_measured r) w a
+  grid_measured r None q n w a = a
+  grid_measured zero (Some c) q n w a = tt
+  grid_measured (suc r) (Some c) q n w a =
+      grid_measured r _ _ (n + 1) (next_cornered e side c f sized up w.0 w.1) (each_enter _ _ _ _ (first_measured c.x c.y n w.0 w.1) a)
 
   middle : (x y : Float) → Sized x 1024 → Sized y 1024 → Sized ((x +ᶠ y) /ᶠ 2ᶠ) 15360
   middle x y p q = wider (lit≤ tt) (half_sized (x +ᶠ y) 1024 (lit< tt) (add_sized p q (lit< tt)))

@@ -4,3 +4,4 @@
 pub mod queue;
 pub mod search;
 pub mod seeds;
+pub mod waiting;

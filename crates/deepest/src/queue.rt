@@ -1,6 +1,6 @@
-// The cells of the search for a deepest point that wait: a binary heap in a lent slice of five floats a cell,
-// x, y, clearance, halvings and entry, the last two as bit patterns. The greatest bound leaves first, of equal
-// bounds the first to enter.
+// The cells of the search for a deepest point that wait: a binary heap in a slice of five floats a cell, x, y, clearance,
+// halvings and entry. The slice is lent by C, so the last two stand in it as the bit patterns of floats. The greatest bound
+// leaves first, of equal bounds the first to enter.
 ghost use Rattle.std.specs.Prelude.{◌≡◌, ℕ, ◌+◌, ◌*◌, ◌<◌, ◌≤◌, length, ◌≢◌};
 ghost use Rattle.deepest.specs.Order.{half_at, bound_of, lower_than, leaves};
 ghost use Rattle.deepest.specs.Cells.{cell_at, put_cell, Tagged, Sound};
@@ -20,14 +20,14 @@ pub struct Cell {
 pub fn half(halves: &[f64], k: u64) -> f64
     ensures { result ≡ half_at halves.now k }
 {
-    let i = k as usize;
-    if i < halves.len() {
-        return halves[i];
+    match halves.get(k as usize) {
+        Some(half) => *half,
+        None => f64::NAN,
     }
-    0.0 / 0.0
 }
 
 // An upper bound of the clearance within a cell.
+#[tactic(auto, unfolding(crate::specs::Order::bound_of))]
 pub fn bound(halves: &[f64], c: Cell) -> f64
     ensures { result ≡ bound_of halves.now c }
 {
@@ -42,6 +42,7 @@ fn lower(a: f64, b: f64) -> bool
 }
 
 // Whether cell `a` leaves before cell `b`.
+#[tactic(auto, unfolding(crate::specs::Order::leaves, crate::specs::Order::sooner))]
 fn before(halves: &[f64], a: Cell, b: Cell) -> bool
     ensures { result ≡ leaves halves.now a b }
 {
@@ -50,6 +51,7 @@ fn before(halves: &[f64], a: Cell, b: Cell) -> bool
     lower(v, u) | (!lower(u, v) & (a.entry < b.entry))
 }
 
+#[tactic(auto, unfolding(crate::specs::Cells::cell_at))]
 fn get(cells: &[f64], k: usize) -> Cell
     requires { (k * 5 + 4 < length cells.now) × Sound cells.now k }
     ensures { result ≡ cell_at cells.now k }

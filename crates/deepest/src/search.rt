@@ -1,20 +1,23 @@
 // regions.rs, `poi_with_holes`.
 ghost use Rattle.std.specs.Prelude.{◌≡◌, ◌+◌, ◌*◌, ◌/◌, ◌<◌, ◌≤◌, true, length};
-ghost use Rattle.regions.specs.Ring.{sum, piece_of};
+ghost use Rattle.regions.specs.Pieces.{rings_of};
 ghost use Rattle.deepest.specs.Order.{halves_from};
 ghost use Rattle.deepest.specs.Cells.{cell_at};
-ghost use Rattle.deepest.specs.Queue.{Queue, total};
-ghost use Rattle.deepest.specs.Turns.{Quartered, Explored};
+ghost use Rattle.deepest.specs.Queue.{total};
+ghost use Rattle.deepest.specs.Turns.{Explored};
+ghost use Rattle.deepest.specs.Waiting.{Quarters};
 ghost use Rattle.deepest.specs.Deepest.{heft, better_of, splits_at, answer_of, search_in, deepest_point, deeper_of};
 
-use crate::queue::{Cell, bound, half, pop, push};
-use crate::seeds::{Seeded, seed};
-use glyphs::bounds::{Extents, ring_extents};
+use crate::queue::{Cell, bound, half};
+use crate::seeds::{Tiling, seed};
+use crate::waiting::Waiting;
+use glyphs::bounds::ring_extents;
 use regions::clearance::signed_clearance;
-use regions::four::four_clearances;
-use regions::ring::ring_at;
+use regions::four::{Four, four_clearances};
+use regions::piece::RegionPiece;
 
-// A deepest point with its clearance, or none; or more cells waited than there is room for.
+// A deepest point with its clearance, or none; or more cells waited than there is room for. It is an enum of its own since
+// the outcomes are three.
 #[derive(Clone, Copy)]
 pub enum Deepest {
     Found(f64, f64, f64),
@@ -36,15 +39,14 @@ fn halves_of(h0: f64) -> [f64; 22]
 {
     let mut halves = [0.0; 22];
     let mut h = h0;
-    let mut k = 0;
-    while k < 22 {
-        halves[k] = h;
+    for half in &mut halves {
+        *half = h;
         h = h / 2.0;
-        k += 1;
     }
     halves
 }
 
+#[tactic(auto, unfolding(crate::specs::Deepest::better_of))]
 fn better(best: Best, cell: Cell) -> Best
     ensures { result ≡ better_of best cell }
 {
@@ -59,6 +61,7 @@ fn better(best: Best, cell: Cell) -> Best
 }
 
 // Whether a cell is split: not after 21 halvings.
+#[tactic(auto, unfolding(crate::specs::Deepest::splits_at))]
 fn splits(halves: &[f64], cell: Cell, best: Best, precision: f64) -> bool
     ensures { (result ≡ splits_at halves.now precision cell best) × (result ≡ true → cell.halvings < 21) }
 {
@@ -68,6 +71,7 @@ fn splits(halves: &[f64], cell: Cell, best: Best, precision: f64) -> bool
     false
 }
 
+#[tactic(auto, unfolding(crate::specs::Deepest::answer_of))]
 fn answer(best: Best) -> Deepest
     ensures { result ≡ answer_of best }
 {
@@ -77,150 +81,92 @@ fn answer(best: Best) -> Deepest
     Deepest::Nothing
 }
 
-// Puts the four quarters of a cell among the `m` that wait.
-fn push_four(
-    cells: &mut [f64],
-    m: usize,
-    halves: &[f64],
-    cell: Cell,
-    entry: u64,
-    sizes: &[usize],
-    coords: &[f64],
-)
-    requires { (0 < length sizes.now) × (sum sizes.now * 2 ≤ length coords.now) × Queue halves.now cells.old m × (m * 5 + 20 ≤ length cells.old) × (cell.halvings < 21) × (entry + 4 ≤ 4611686018427387904) }
-    ensures { Quartered (piece_of sizes.now coords.now) halves.now cells.old m cell entry cells.new }
+// Puts the four quarters of a cell among those that wait.
+fn push_four(waiting: &mut Waiting, cell: Cell, piece: RegionPiece)
+    requires { (waiting.old.len * 5 + 20 ≤ length waiting.old.cells.now) × (cell.halvings < 21) × (waiting.old.entered + 4 ≤ 4611686018427387904) }
+    ensures { Quarters (rings_of piece.entry) waiting.old cell waiting.new }
 {
     let k = cell.halvings + 1;
-    let nh = half(halves, k);
+    let nh = half(waiting.halves, k);
     let left = cell.x - nh;
     let right = cell.x + nh;
     let low = cell.y - nh;
     let high = cell.y + nh;
-    let ds = four_clearances(
-        left, low, right, low, left, high, right, high, sizes, coords,
-    );
-    let a = Cell {
-        x: left,
-        y: low,
-        d: ds.a,
-        halvings: k,
-        entry,
+    let xs = Four {
+        a: left,
+        b: right,
+        c: left,
+        d: right,
     };
-    let b = Cell {
-        x: right,
-        y: low,
-        d: ds.b,
-        halvings: k,
-        entry: entry + 1,
+    let ys = Four {
+        a: low,
+        b: low,
+        c: high,
+        d: high,
     };
-    let c = Cell {
-        x: left,
-        y: high,
-        d: ds.c,
-        halvings: k,
-        entry: entry + 2,
-    };
-    let d = Cell {
-        x: right,
-        y: high,
-        d: ds.d,
-        halvings: k,
-        entry: entry + 3,
-    };
-    let m1 = m + 1;
-    let m2 = m1 + 1;
-    let m3 = m2 + 1;
-    push(&mut cells[..], m, halves, a);
-    push(&mut cells[..], m1, halves, b);
-    push(&mut cells[..], m2, halves, c);
-    push(&mut cells[..], m3, halves, d);
+    let ds = four_clearances(xs, ys, piece);
+    waiting.push(left, low, ds.a, k);
+    waiting.push(right, low, ds.b, k);
+    waiting.push(left, high, ds.c, k);
+    waiting.push(right, high, ds.d, k);
 }
 
-// The search, with `start` cells waiting.
-fn explore(
-    cells: &mut [f64],
-    start: usize,
-    halves: &[f64],
-    first: Best,
-    precision: f64,
-    sizes: &[usize],
-    coords: &[f64],
-) -> Deepest
-    requires { (0 < length sizes.now) × (sum sizes.now * 2 ≤ length coords.now) × Queue halves.now cells.old start × (start + 4 * total heft (cell_at cells.old) start ≤ 4611686018427387904) }
-    ensures { Explored (piece_of sizes.now coords.now) halves.now precision cells.old start first result }
+// The search among the cells that wait.
+fn explore(waiting: &mut Waiting, first: Best, precision: f64, piece: RegionPiece) -> Deepest
+    requires { (waiting.old.entered ≡ waiting.old.len) × (waiting.old.len + 4 * total heft (cell_at waiting.old.cells.now) waiting.old.len ≤ 4611686018427387904) }
+    ensures { Explored (rings_of piece.entry) waiting.old.halves.now precision waiting.old.cells.now waiting.old.len first result }
 {
-    let room = cells.len() / 5;
-    let mut m = start;
-    let mut entry = start as u64;
     let mut best = first;
-    while 0 < m {
-        let cell = pop(&mut cells[..], m, halves);
-        m -= 1;
+    while let Some(cell) = waiting.pop() {
         best = better(best, cell);
-        if splits(halves, cell, best, precision) {
-            if room < m + 4 {
+        if splits(waiting.halves, cell, best, precision) {
+            if waiting.room() < 4 {
                 return Deepest::Full;
             }
-            push_four(&mut cells[..], m, halves, cell, entry, sizes, coords);
-            m += 4;
-            entry += 4;
+            push_four(waiting, cell, piece);
         }
     }
     answer(best)
 }
 
 // The deepest point within the bounds of the outer ring, with first cells of the given side.
-fn search(
-    cells: &mut [f64],
-    e: Extents,
-    side: f64,
-    precision: f64,
-    sizes: &[usize],
-    coords: &[f64],
-) -> Deepest
-    requires { (0 < length sizes.now) × (sum sizes.now * 2 ≤ length coords.now) × (length cells.old ≤ 500000) }
-    ensures { result ≡ search_in (piece_of sizes.now coords.now) precision (length cells.old / 5) e side }
+fn search(cells: &mut [f64], tiling: Tiling, precision: f64, piece: RegionPiece) -> Deepest
+    requires { length cells.old ≤ 500000 }
+    ensures { result ≡ search_in (rings_of piece.entry) precision (length cells.old / 5) tiling.bounds tiling.side }
 {
-    let halves = halves_of(side / 2.0);
+    let halves = halves_of(tiling.side / 2.0);
+    let e = tiling.bounds;
     let x = (e.min_x + e.max_x) / 2.0;
     let y = (e.min_y + e.max_y) / 2.0;
-    let d = signed_clearance(x, y, sizes, coords);
-    let seeded = seed(&mut cells[..], &halves[..], e, side, sizes, coords);
-    let Seeded::Waiting(m) = seeded else {
+    let d = signed_clearance(x, y, piece);
+    let mut waiting = Waiting::new(&mut cells[..], &halves[..]);
+    let Ok(()) = seed(&mut waiting, tiling, piece) else {
         return Deepest::Full;
     };
-    let best = Best { x, y, d };
-    explore(
-        &mut cells[..],
-        m,
-        &halves[..],
-        best,
-        precision,
-        sizes,
-        coords,
-    )
+    explore(&mut waiting, Best { x, y, d }, precision, piece)
 }
 
 // The deepest point of a piece. As many cells may wait as `cells` has room for, at five floats each.
-pub fn deepest_point(sizes: &[usize], coords: &[f64], precision: f64, cells: &mut [f64]) -> Deepest
-    requires { (0 < length sizes.now) × (sum sizes.now * 2 ≤ length coords.now) × (length cells.old ≤ 500000) }
-    ensures { result ≡ deepest_point (length cells.old / 5) precision (piece_of sizes.now coords.now) }
+pub fn deepest_point(piece: RegionPiece, precision: f64, cells: &mut [f64]) -> Deepest
+    requires { length cells.old ≤ 500000 }
+    ensures { result ≡ deepest_point (length cells.old / 5) precision (rings_of piece.entry) }
 {
-    let n = sizes[0];
-    if n < 3 {
+    let outer = piece.outer();
+    if outer.len() / 2 < 3 {
         return Deepest::Nothing;
     }
-    let e = ring_extents(ring_at(coords, 0, n));
-    let width = e.max_x - e.min_x;
-    let height = e.max_y - e.min_y;
+    let bounds = ring_extents(outer);
+    let width = bounds.max_x - bounds.min_x;
+    let height = bounds.max_y - bounds.min_y;
     if (width <= 0.0) | (height <= 0.0) {
         return Deepest::Nothing;
     }
     let side = float::min(width, height);
-    search(&mut cells[..], e, side, precision, sizes, coords)
+    search(&mut cells[..], Tiling { bounds, side }, precision, piece)
 }
 
 // The deeper of two: the first unless the second is strictly deeper. Where one search found no room, there is none.
+#[tactic(auto, unfolding(crate::specs::Deepest::deeper_of))]
 pub fn deeper(a: Deepest, b: Deepest) -> Deepest
     ensures { result ≡ deeper_of a b }
 {

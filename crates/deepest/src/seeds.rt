@@ -1,112 +1,74 @@
 // regions.rs, `poi_with_holes`: the first cells.
-ghost use Rattle.std.specs.Prelude.{◌≡◌, ◌+◌, ◌*◌, ◌/◌, ◌<◌, ◌≤◌, [], length};
-ghost use Rattle.regions.specs.Ring.{sum, piece_of};
-ghost use Rattle.deepest.specs.Queue.{Queue};
+ghost use Rattle.std.specs.Prelude.{◌≡◌, ◌/◌, [], length};
+ghost use Rattle.regions.specs.Pieces.{rings_of};
 ghost use Rattle.deepest.specs.Plant.{Seeds};
-ghost use Rattle.deepest.specs.Turns.{Entered};
 ghost use Rattle.deepest.specs.Deepest.{next_corner, first_corner, grid_from};
 
-use crate::queue::{Cell, half, push};
+use crate::queue::half;
+use crate::waiting::{NoRoom, Waiting};
 use glyphs::bounds::Extents;
+use glyphs::rect::Point;
 use regions::clearance::signed_clearance;
+use regions::piece::RegionPiece;
 
-// Makes a cell and puts it among the `m` that wait.
-fn enter_cell(
-    cells: &mut [f64],
-    m: usize,
-    halves: &[f64],
-    x: f64,
-    y: f64,
-    halvings: u64,
-    entry: u64,
-    sizes: &[usize],
-    coords: &[f64],
-)
-    requires { (0 < length sizes.now) × (sum sizes.now * 2 ≤ length coords.now) × Queue halves.now cells.old m × (m * 5 + 4 < length cells.old) × (halvings < 22) × (entry < 4611686018427387904) }
-    ensures { Entered (piece_of sizes.now coords.now) halves.now cells.old m x y halvings entry cells.new }
-{
-    let d = signed_clearance(x, y, sizes, coords);
-    let c = Cell {
-        x,
-        y,
-        d,
-        halvings,
-        entry,
-    };
-    push(&mut cells[..], m, halves, c);
-}
-
-// A corner of a first cell, and whether there is one.
+// The squares of a side that cover the bounds of a ring, each named by its lower left corner.
 #[derive(Clone, Copy)]
-pub struct Corner {
-    pub x: f64,
-    pub y: f64,
-    pub more: bool,
+pub struct Tiling {
+    pub bounds: Extents,
+    pub side: f64,
 }
 
-// The corner after one: up its column, then the next column.
-fn next_corner(corner: Corner, e: Extents, side: f64) -> Corner
-    ensures { result ≡ next_corner e side corner }
-{
-    let y = corner.y + side;
-    if y < e.max_y {
-        return Corner {
-            x: corner.x,
-            y,
-            more: true,
-        };
-    }
-    let x = corner.x + side;
-    Corner {
-        x,
-        y: e.min_y,
-        more: x < e.max_x,
-    }
-}
-
-// How many first cells wait, or that there are too many.
-#[derive(Clone, Copy)]
-pub enum Seeded {
-    Waiting(usize),
-    Crowded,
-}
-
-pub fn seed(
-    cells: &mut [f64],
-    halves: &[f64],
-    e: Extents,
-    side: f64,
-    sizes: &[usize],
-    coords: &[f64],
-) -> Seeded
-    requires { (0 < length sizes.now) × (sum sizes.now * 2 ≤ length coords.now) }
-    ensures { Seeds halves.now cells.new (grid_from (piece_of sizes.now coords.now) halves.now e side (length cells.old / 5) (first_corner e) [] 0) result }
-{
-    let room = cells.len() / 5;
-    let h0 = half(halves, 0);
-    let mut corner = Corner {
-        x: e.min_x,
-        y: e.min_y,
-        more: (e.min_x < e.max_x) & (e.min_y < e.max_y),
-    };
-    let mut m = 0;
-    while corner.more {
-        if room <= m {
-            return Seeded::Crowded;
+impl Tiling {
+    #[tactic(auto, unfolding(crate::specs::Deepest::first_corner))]
+    fn first_corner(self) -> Option<Point>
+        ensures { result ≡ first_corner self.bounds }
+    {
+        let e = self.bounds;
+        if (e.min_x < e.max_x) & (e.min_y < e.max_y) {
+            return Some(Point {
+                x: e.min_x,
+                y: e.min_y,
+            });
         }
-        enter_cell(
-            &mut cells[..],
-            m,
-            halves,
-            corner.x + h0,
-            corner.y + h0,
-            0,
-            m as u64,
-            sizes,
-            coords,
-        );
-        corner = next_corner(corner, e, side);
-        m += 1;
+        None
     }
-    Seeded::Waiting(m)
+
+    // The corner after one: up its column, then the next column.
+    #[tactic(auto, unfolding(crate::specs::Deepest::next_corner))]
+    fn next_corner(self, corner: Point) -> Option<Point>
+        ensures { result ≡ next_corner self.bounds self.side corner }
+    {
+        let y = corner.y + self.side;
+        if y < self.bounds.max_y {
+            return Some(Point { x: corner.x, y });
+        }
+        let x = corner.x + self.side;
+        if x < self.bounds.max_x {
+            return Some(Point {
+                x,
+                y: self.bounds.min_y,
+            });
+        }
+        None
+    }
+}
+
+// Puts a cell for each square among those that wait, of which there is none yet.
+pub fn seed(waiting: &mut Waiting, tiling: Tiling, piece: RegionPiece) -> Result<(), NoRoom>
+    requires { (waiting.old.len ≡ 0) × (waiting.old.entered ≡ 0) }
+    ensures { Seeds waiting.old (grid_from (rings_of piece.entry) waiting.old.halves.now tiling.bounds tiling.side (length waiting.old.cells.now / 5) (first_corner tiling.bounds) [] 0) result waiting.new }
+{
+    let h0 = half(waiting.halves, 0);
+    let mut next = tiling.first_corner();
+    while let Some(corner) = next {
+        if waiting.room() == 0 {
+            return Err(NoRoom);
+        }
+        let x = corner.x + h0;
+        let y = corner.y + h0;
+        let d = signed_clearance(x, y, piece);
+        waiting.push(x, y, d, 0);
+        next = tiling.next_corner(corner);
+    }
+    Ok(())
 }

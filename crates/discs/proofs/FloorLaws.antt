@@ -1,6 +1,6 @@
 -- Where the quotas and deepest points handed in are the zones' own, the ceiling, the trials and the size are those of the source.
 -- Rests on the law of one zone's packing.
-use Rattle.std.specs.Prelude.{◌≡◌, ℕ, Bool, List, [], ◌∷◌, map, nat_eq, Float}
+use Rattle.std.specs.Prelude.{◌≡◌, ℕ, Bool, List, [], ◌∷◌, map, nat_eq, Float, Option}
 use Rattle.std.proofs.Math.Path.{refl, ap, fun_ext}
 use Rattle.std.proofs.Common.{◌∙◌}
 use mathlib.Core.List.{foldl}
@@ -20,7 +20,6 @@ use Rattle.discs.proofs.PieceLaws.{region_own}
 use Rattle.discs.specs.Radius.{boundary_gap_of, context_at, area_of, lowered, if_positive, analytic_r_hi, probe, feasible}
 use Rattle.discs.specs.PlaceGlyphs.{size_for, sizing}
 use Rattle.discs.specs.Floor.{Handed, handed_work, deepest_in, lowered_by, handed_r_hi, pack_handed, holds_all, handed_feasible}
-use Rattle.discs.specs.declared.ceiling.Chosen.{Chosen}
 use Rattle.discs.specs.declared.options.GlyphOptions.{GlyphOptions}
 use Rattle.discs.specs.declared.options.Radius.{Radius}
 use Rattle.discs.specs.FloorLaws.{OwnPoints, OwnPacking, work_zones, zones_of}
@@ -82,7 +81,7 @@ module _ (room : ℕ) (options : GlyphOptions) where
     -- ---- the size
 
     pub size_own :
-        (hs : List Handed) → Every (OwnPacking room options) hs → (obstacles : List Rectangle) (radius : Radius) (ceiling : Chosen)
+        (hs : List Handed) → Every (OwnPacking room options) hs → (obstacles : List Rectangle) (radius : Radius) (ceiling : Option Float)
         → size_for (handed_feasible numbers options hs) obstacles radius ceiling ≡ size_for (feasible room numbers options (zones_of hs)) obstacles radius ceiling
     size_own hs o obstacles radius ceiling =
         let e : handed_feasible numbers options hs ≡ feasible room numbers options (zones_of hs) =

@@ -1,5 +1,6 @@
 -- The turns of the search for a radius, counted by the trials made.
 -- Rests on the definition alone.
+use Rattle.std.specs.Prelude.{Some}
 use Rattle.std.proofs.Common.{◌≡◌, ℕ, suc, ◌+◌, ◌-◌, ◌<◌, ◌≤◌, Bool, true, false, cond, [], refl, arith}
 use lib.Ieee.{Float}
 use Rattle.float.specs.Ops.{◌+ᶠ◌, ◌-ᶠ◌, ◌*ᶠ◌, ◌≤ᶠ◌, ½ᶠ}
@@ -7,7 +8,6 @@ use Rattle.glyphs.specs.Rect.{rectangles, rects_from}
 use Rattle.lattice.specs.Uniform.{1e-3ᶠ}
 use Rattle.discs.specs.Radius.{halve}
 use Rattle.discs.specs.Walk.{narrowed}
-use Rattle.discs.specs.declared.ceiling.Chosen.TheVariants.{Some}
 use Rattle.discs.specs.declared.radius.Bracket.{Bracket}
 use Rattle.discs.specs.declared.radius.Search.{Search}
 

@@ -5,3 +5,4 @@ mod Zones
 mod Halving
 pub mod FloorLaws
 pub mod PieceLaws
+pub mod Totals

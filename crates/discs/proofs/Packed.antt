@@ -1,6 +1,6 @@
 -- What is packed of one piece, by what the packers answer: none, the spots written, or a trial's number of them.
 -- Rests on the definitions, and on the room that was lent.
-use Rattle.std.proofs.Common.{◌≡◌, ℕ, ◌*◌, ◌≤◌, Bool, true, false, cond, not, ◌&&◌, ◌||◌, ltb, leb, List, [], length, sym, refl, ap, ◌∙◌, arith, length-take, eq-eqb, ne_eqb, leb-false}
+use Rattle.std.proofs.Common.{◌≡◌, ℕ, ◌*◌, ◌≤◌, Bool, true, false, cond, not, ◌&&◌, ◌||◌, ltb, leb, List, [], length, sym, refl, ap, ◌∙◌, arith, length-take, eq-eqb, ne_eqb, leb-false, Option, None}
 use lib.Ieee.{Float}
 use Rattle.laws.specs.Lists.{written}
 use Rattle.glyphs.specs.Spots.{flat, length_flat}
@@ -21,8 +21,6 @@ use Rattle.lattice.specs.Uniform.{available, local_to, anchor_of, spread_cells, 
 use Rattle.lattice.specs.declared.context.PackCtx.{PackCtx}
 use Rattle.scatter.specs.LowDiscrepancy.{lone_anchor, pack_scatter}
 use Rattle.scatter.specs.Random.{Thrown}
-use Rattle.scatter.specs.declared.low.Anchor.{Anchor}
-use Rattle.scatter.specs.declared.low.Anchor.TheVariants.{Nowhere}
 use Rattle.discs.specs.Region.{pack_uniform_piece, pack_low_discrepancy_piece}
 use Rattle.discs.specs.Pieces.{pack_piece_from, pack_quota, StrictTrial, Packs}
 use Rattle.discs.specs.declared.options.GlyphOptions.{GlyphOptions}
@@ -100,14 +98,14 @@ module _ (piece : Piece) (n : ℕ) (ctx : PackCtx) (obstacles : List Rectangle) 
 
   -- ---- a sequence of low discrepancy
 
-  pub low_none : (found : Deepest) → ((x y d : Float) → found ≡ Found x y d → ⊥) → pack_low_discrepancy_piece found piece n ctx obstacles ≡ pack_scatter Nowhere piece n ctx obstacles
+  pub low_none : (found : Deepest) → ((x y d : Float) → found ≡ Found x y d → ⊥) → pack_low_discrepancy_piece found piece n ctx obstacles ≡ pack_scatter None piece n ctx obstacles
   unfolding pack_low_discrepancy_piece
   low_none Nothing k = refl
   low_none Full k = refl
   low_none (Found x y clearance) k = absurd (k x y clearance refl)
 
   pub low_at :
-      (found : Deepest) (x y clearance : Float) (anchor : Anchor) → found ≡ Found x y clearance → anchor ≡ lone_anchor (point x y) piece n ctx obstacles
+      (found : Deepest) (x y clearance : Float) (anchor : Option Point) → found ≡ Found x y clearance → anchor ≡ lone_anchor (point x y) piece n ctx obstacles
       → pack_low_discrepancy_piece found piece n ctx obstacles ≡ pack_scatter anchor piece n ctx obstacles
   unfolding pack_low_discrepancy_piece
   low_at found x y clearance anchor e a = rw (e, a)

@@ -1,15 +1,13 @@
 -- A zone packed from deepest points that are handed in is the definition's zone, where those that a packer starts from are the pieces' own; and what each piece has.
 -- Rests on the definitions alone.
-use Rattle.std.specs.Prelude.{◌≡◌, ℕ, zero, suc, ◌<◌, ◌≤◌, Bool, true, false, cond, ◌&&◌, List, [], ◌∷◌, length, ◌==◌, nat_eq, nat_lt, slice_index, slice_index_or}
+use Rattle.std.specs.Prelude.{◌≡◌, ℕ, zero, suc, ◌<◌, ◌≤◌, Bool, true, false, cond, ◌&&◌, List, [], ◌∷◌, length, ◌==◌, nat_eq, nat_lt, slice_index, slice_index_or, Option, None, Some}
 use Rattle.std.proofs.Math.Path.{refl, sym, ap}
 use Rattle.std.proofs.Common.{◌∙◌, arith, lt-ltb}
 use Rattle.std.proofs.lemmas.Bool.{eqb-false}
 use Rattle.glyphs.specs.Bounds.{ring_bounds}
 use Rattle.glyphs.specs.Hash.{fnv1a}
 use Rattle.glyphs.specs.Stream.{seeded}
-use Rattle.glyphs.specs.declared.bounds.Bounds.{Bounds}
-use Rattle.glyphs.specs.declared.bounds.Bounds.TheVariants.{Box}
-use Rattle.glyphs.specs.declared.bounds.Bounds.TheVariants as bounds
+use Rattle.glyphs.specs.declared.bounds.Extents.{Extents}
 use Rattle.glyphs.specs.declared.options.GlyphArrangement.{GlyphArrangement}
 use Rattle.glyphs.specs.declared.options.GlyphArrangement.TheVariants.{Uniform, Rectangular, LowDiscrepancy, Random}
 use Rattle.glyphs.specs.declared.rect.Point.{Point}
@@ -23,8 +21,6 @@ use Rattle.lattice.specs.Escape.{point}
 use Rattle.lattice.specs.declared.context.PackCtx.{PackCtx}
 use Rattle.scatter.specs.LowDiscrepancy.{lone_anchor, pack_within, pack_scatter}
 use Rattle.scatter.specs.Random.{Thrown}
-use Rattle.scatter.specs.declared.low.Anchor.{Anchor}
-use Rattle.scatter.specs.declared.low.Anchor.TheVariants.{Nowhere}
 use Rattle.discs.specs.Region.{Zone, quotas, deepest_of, pack_low_discrepancy_piece, pack_piece, pack_pieces, pack_region}
 use Rattle.discs.specs.Searches.{has_bounds, starts_deepest}
 use Rattle.discs.specs.Pieces.{pack_piece_from, pack_quota, pack_pieces_from}
@@ -35,13 +31,13 @@ use Rattle.discs.specs.PieceLaws.{Own}
 
 module _ (piece : Piece) (quota : ℕ) (ctx : PackCtx) (obstacles : List Rectangle) where
   -- without bounds an anchor makes no difference
-  unbounded : ring_bounds (outer piece) ≡ bounds.Nothing → (a b : Anchor) → pack_scatter a piece quota ctx obstacles ≡ pack_scatter b piece quota ctx obstacles
+  unbounded : ring_bounds (outer piece) ≡ None → (a b : Option Point) → pack_scatter a piece quota ctx obstacles ≡ pack_scatter b piece quota ctx obstacles
   unfolding pack_scatter pack_within
   unbounded e a b = rw e
 
-  first : (found : Deepest) → Anchor
-  first Nothing = Nowhere
-  first Full = Nowhere
+  first : (found : Deepest) → Option Point
+  first Nothing = None
+  first Full = None
   first (Found x y clearance) = lone_anchor (point x y) piece quota ctx obstacles
 
   scattered : (found : Deepest) → pack_low_discrepancy_piece found piece quota ctx obstacles ≡ pack_scatter (first found) piece quota ctx obstacles
@@ -51,20 +47,20 @@ module _ (piece : Piece) (quota : ℕ) (ctx : PackCtx) (obstacles : List Rectang
   scattered (Found x y clearance) = refl
 
   -- nor is there one for several marks
-  several : nat_eq quota 1 ≡ false → (found : Deepest) → first found ≡ Nowhere
+  several : nat_eq quota 1 ≡ false → (found : Deepest) → first found ≡ None
   unfolding lone_anchor first
   several e Nothing = refl
   several e Full = refl
   several e (Found x y clearance) = rw e
 
   low_same :
-      (found other : Deepest) (lone : Bool) (box : Bounds) → (quota == 1) ≡ lone → ring_bounds (outer piece) ≡ box → ((lone && has_bounds box) ≡ true → found ≡ other)
+      (found other : Deepest) (lone : Bool) (box : Option Extents) → (quota == 1) ≡ lone → ring_bounds (outer piece) ≡ box → ((lone && has_bounds box) ≡ true → found ≡ other)
       → pack_low_discrepancy_piece found piece quota ctx obstacles ≡ pack_low_discrepancy_piece other piece quota ctx obstacles
   unfolding has_bounds
-  low_same found other true (Box min-x max-x min-y max-y) e b h = rw (h refl)
-  low_same found other true bounds.Nothing e b h = scattered found ∙ unbounded b (first found) (first other) ∙ sym (scattered other)
+  low_same found other true (Some bounds) e b h = rw (h refl)
+  low_same found other true None e b h = scattered found ∙ unbounded b (first found) (first other) ∙ sym (scattered other)
   low_same found other false box e b h =
-      scattered found ∙ ap (λ (a : Anchor). pack_scatter a piece quota ctx obstacles) (several e found ∙ sym (several e other)) ∙ sym (scattered other)
+      scattered found ∙ ap (λ (a : Option Point). pack_scatter a piece quota ctx obstacles) (several e found ∙ sym (several e other)) ∙ sym (scattered other)
 
 -- ---- the pieces
 

@@ -1,6 +1,7 @@
 -- The zones of a job in flat slices, with the quotas and the deepest points of their pieces. Definitions only.
-use Rattle.std.specs.Prelude.{◌≡◌, ℕ, zero, suc, ◌+◌, ◌*◌, ◌≤◌, Bool, true, cond, ◌&&◌, List, [], ◌∷◌, length, take, drop, ◌==◌, nat_lt, slice_index, Float}
+use Rattle.std.specs.Prelude.{◌≡◌, ℕ, ◌+◌, ◌*◌, ◌≤◌, Bool, true, cond, ◌&&◌, List, [], ◌∷◌, length, take, drop, ◌==◌, nat_lt, Float, Option}
 use mathlib.Core.List.{foldl}
+use native.Mathlib.Bridge.{le_prop}
 use Rattle.laws.specs.Any.{all}
 use Rattle.float.specs.Ops.{∞}
 use Rattle.glyphs.specs.Hash.{fnv1a}
@@ -16,17 +17,12 @@ use Rattle.lattice.specs.declared.context.PackCtx.{PackCtx}
 use Rattle.discs.specs.Region.{Zone, placed_in}
 use Rattle.discs.specs.Radius.{context_at, area_of, lowered, if_positive, probe}
 use Rattle.discs.specs.PlaceGlyphs.{is_left_in}
-use Rattle.discs.specs.Pieces.{pieces_of, deepests_of, pack_pieces_from, Laid}
-use Rattle.discs.specs.declared.ceiling.Chosen.{Chosen}
+use Rattle.discs.specs.Pieces.{pieces_of, pack_pieces_from, Laid, laid_prop}
 use Rattle.discs.specs.declared.options.GlyphOptions.{GlyphOptions}
 use Rattle.discs.specs.declared.rows.Offsets.{Offsets}
 use Rattle.discs.specs.declared.rows.Row.{Row}
 
 -- ---- rows
-
--- row z of a list of rows: where the key starts, how long that is, the mark count, the piece count
-unfoldable pub row_of : List ℕ → ℕ → Row
-row_of l z = record { key = slice_index l (z * 4); len = slice_index l (z * 4 + 1); count = slice_index l (z * 4 + 2); pieces = slice_index l (z * 4 + 3) }
 
 -- n > 0 && !pieces.is_empty()
 unfoldable pub row_is_left_in : Row → Bool
@@ -53,7 +49,7 @@ past_row rings sizes row at =
     let own = take (sum (cut at.piece row.pieces rings)) (drop at.ring sizes) in
     record { piece = at.piece + row.pieces; ring = at.ring + length own; coord = at.coord + sum own * 2 }
 
-module _ (s rings sizes : List ℕ) (coords : List Float) (quotas : List ℕ) (deepest : List Float) where
+module _ (s rings sizes : List ℕ) (coords : List Float) (quotas : List ℕ) (deepest : List Deepest) where
   unfoldable pub handed_at : Row → Offsets → Handed
   handed_at row at =
       record {
@@ -63,21 +59,21 @@ module _ (s rings sizes : List ℕ) (coords : List Float) (quotas : List ℕ) (d
           pieces = pieces_of (cut at.piece row.pieces rings) (drop at.ring sizes) (drop at.coord coords);
         };
         quotas = cut at.piece row.pieces quotas;
-        deepests = deepests_of (cut (at.piece * 3) (row.pieces * 3) deepest);
+        deepests = cut at.piece row.pieces deepest;
       }
 
-  -- n zones, from the row z on
-  unfoldable pub handed_from : List ℕ → ℕ → ℕ → Offsets → List Handed
-  handed_from rows zero z at = []
-  handed_from rows (suc n) z at = handed_at (row_of rows z) at ∷ handed_from rows n (z + 1) (past_row rings sizes (row_of rows z) at)
+  -- the zones of these rows
+  unfoldable pub handed_from : List Row → Offsets → List Handed
+  handed_from [] at = []
+  handed_from (row ∷ rows) at = handed_at row at ∷ handed_from rows (past_row rings sizes row at)
 
 -- the zones left in
 unfoldable pub handed_work : List Handed → List Handed
 handed_work [] = []
 handed_work (handed ∷ rest) = cond (is_left_in handed.zone) (handed ∷ handed_work rest) (handed_work rest)
 
-abbrev pub work_in : List ℕ → ℕ → List ℕ → List ℕ → List ℕ → List Float → List ℕ → List Float → List Handed
-work_in s n rows rings sizes coords quotas deepest = handed_work (handed_from s rings sizes coords quotas deepest rows n 0 start)
+abbrev pub work_in : List ℕ → List Row → List ℕ → List ℕ → List Float → List ℕ → List Deepest → List Handed
+work_in s rows rings sizes coords quotas deepest = handed_work (handed_from s rings sizes coords quotas deepest rows start)
 
 -- ---- analytic_r_hi and feasible, with what is handed in
 
@@ -88,7 +84,7 @@ deepest_in deepests = foldl deeper_of Nothing deepests
 unfoldable pub lowered_by : Float → Float → Handed → Float
 lowered_by gap r-hi handed = lowered gap handed.zone.count r-hi (area_of handed.zone.pieces) (deepest_in handed.deepests)
 
-unfoldable pub handed_r_hi : List Handed → Float → Chosen
+unfoldable pub handed_r_hi : List Handed → Float → Option Float
 handed_r_hi work gap = if_positive (foldl (lowered_by gap) ∞ work)
 
 unfoldable pub pack_handed : Spreading → GlyphOptions → PackCtx → List Rectangle → Handed → List (List Point)
@@ -104,33 +100,63 @@ handed_feasible numbers options work obstacles r = all (holds_all numbers option
 
 -- ---- what the code asks of the slices
 
--- it holds of each of n rows from the row z on, and of where its pieces start
-unfoldable pub EachRow : List ℕ → List ℕ → List ℕ → (Row → Offsets → Type 0) → ℕ → ℕ → Offsets → Type 0
-EachRow rows rings sizes P zero z at = Unit {0}
-EachRow rows rings sizes P (suc n) z at = P (row_of rows z) at × EachRow rows rings sizes P n (z + 1) (past_row rings sizes (row_of rows z) at)
+-- it holds of each row, and of where its pieces start
+unfoldable pub EachRow : List ℕ → List ℕ → (Row → Offsets → Type 0) → List Row → Offsets → Type 0
+EachRow rings sizes P [] at = Unit {0}
+EachRow rings sizes P (row ∷ rows) at = P row at × EachRow rings sizes P rows (past_row rings sizes row at)
 
 -- a zone has at most 2,000 marks, its pieces lie within the slices, and each has a deepest point
-pub record Stands (rings sizes : List ℕ) (coords deepest : List Float) (row : Row) (at : Offsets) : Type 0 where
+pub record Stands (rings sizes : List ℕ) (coords : List Float) (deepest : List Deepest) (row : Row) (at : Offsets) : Type 0 where
   pub pieces : at.piece + row.pieces ≤ length rings
   pub ring : at.ring ≤ length sizes
   pub coord : at.coord ≤ length coords
   pub laid : Laid (cut at.piece row.pieces rings) (drop at.ring sizes) (drop at.coord coords)
-  pub points : (at.piece + row.pieces) * 3 ≤ length deepest
+  pub points : at.piece + row.pieces ≤ length deepest
   pub marks : row.count ≤ 2000
 
 -- and its key lies within the bytes, each piece has a quota, and the quotas of a zone left in are at most 2,000
-pub record Packable (s rings sizes : List ℕ) (coords : List Float) (quotas : List ℕ) (deepest : List Float) (row : Row) (at : Offsets) : Type 0 where
+pub record Packable (s rings sizes : List ℕ) (coords : List Float) (quotas : List ℕ) (deepest : List Deepest) (row : Row) (at : Offsets) : Type 0 where
   pub stands : Stands rings sizes coords deepest row at
   pub key : row.key + row.len ≤ length s
   pub shared : at.piece + row.pieces ≤ length quotas
   pub few : row_is_left_in row ≡ true → sum (cut at.piece row.pieces quotas) ≤ 2000
 
-pub record Floor (s : List ℕ) (n : ℕ) (rows rings sizes : List ℕ) (coords : List Float) (quotas : List ℕ) (deepest : List Float) : Type 0 where
-  pub long : n * 4 ≤ length rows
-  pub each : EachRow rows rings sizes (Packable s rings sizes coords quotas deepest) n 0 start
+abbrev pub Floor : List ℕ → List Row → List ℕ → List ℕ → List Float → List ℕ → List Deepest → Type 0
+Floor s rows rings sizes coords quotas deepest = EachRow rings sizes (Packable s rings sizes coords quotas deepest) rows start
+
+stands_prop : (rings sizes : List ℕ) (coords : List Float) (deepest : List Deepest) (row : Row) (at : Offsets) → IsProp (Stands rings sizes coords deepest row at)
+stands_prop rings sizes coords deepest row at a b = λ i. record {
+  pieces = le_prop a.pieces b.pieces i;
+  ring = le_prop a.ring b.ring i;
+  coord = le_prop a.coord b.coord i;
+  laid = laid_prop (cut at.piece row.pieces rings) (drop at.ring sizes) (drop at.coord coords) a.laid b.laid i;
+  points = le_prop a.points b.points i;
+  marks = le_prop a.marks b.marks i;
+}
+
+packable_prop :
+    (s rings sizes : List ℕ) (coords : List Float) (quotas : List ℕ) (deepest : List Deepest) (row : Row) (at : Offsets)
+    → IsProp (Packable s rings sizes coords quotas deepest row at)
+packable_prop s rings sizes coords quotas deepest row at a b = λ i. record {
+  stands = stands_prop rings sizes coords deepest row at a.stands b.stands i;
+  key = le_prop a.key b.key i;
+  shared = le_prop a.shared b.shared i;
+  few = λ e. le_prop (a.few e) (b.few e) i;
+}
+
+each_prop : (rings sizes : List ℕ) (P : Row → Offsets → Type 0) → ((row : Row) (at : Offsets) → IsProp (P row at)) → (rows : List Row) (at : Offsets) → IsProp (EachRow rings sizes P rows at)
+unfolding EachRow
+each_prop rings sizes P p [] at a b = λ i. tt
+each_prop rings sizes P p (row ∷ rows) at a b = λ i. (p row at a.0 b.0 i, each_prop rings sizes P p rows (past_row rings sizes row at) a.1 b.1 i)
+
+pub floor_prop :
+    (s : List ℕ) (rows : List Row) (rings sizes : List ℕ) (coords : List Float) (quotas : List ℕ) (deepest : List Deepest)
+    → IsProp (Floor s rows rings sizes coords quotas deepest)
+floor_prop s rows rings sizes coords quotas deepest =
+    each_prop rings sizes (Packable s rings sizes coords quotas deepest) (packable_prop s rings sizes coords quotas deepest) rows start
 
 -- what is lent has room for the obstacles and for 2,000 marks
-pub record Lends (obstacles near second flags spots : List Float) : Type 0 where
+pub record Lends (obstacles near second : List Float) (flags : List Bool) (spots : List Float) : Type 0 where
   pub room_near : length obstacles ≤ length near
   pub room_second : 4000 ≤ length second
   pub room_flags : 2000 ≤ length flags

@@ -1,16 +1,17 @@
 -- What it is for quotas and deepest points handed in to be the zones' own, and the zones that are left in.
 -- Rests on the definitions.
-use Rattle.std.specs.Prelude.{◌≡◌, ℕ, zero, suc, ◌+◌, Bool, true, false, cond, List, [], ◌∷◌, map, Float}
+use Rattle.std.specs.Prelude.{◌≡◌, ℕ, Bool, true, false, cond, List, [], ◌∷◌, map, Float, Option}
 use Rattle.std.proofs.Math.Path.{refl, ap}
 use Rattle.glyphs.specs.declared.rect.Rectangle.{Rectangle}
+use Rattle.deepest.specs.declared.search.Deepest.{Deepest}
 use Rattle.discs.specs.Region.{Zone, quotas, deepest_of}
 use Rattle.discs.specs.PieceLaws.{Own}
 use Rattle.discs.specs.declared.options.GlyphOptions.{GlyphOptions}
 use Rattle.discs.specs.PlaceGlyphs.{is_left_in, work_of, size_for}
-use Rattle.discs.specs.Floor.{row_of, past_row, Handed, handed_work, EachRow, Stands, Packable}
-use Rattle.discs.specs.declared.ceiling.Chosen.{Chosen}
+use Rattle.discs.specs.Floor.{past_row, Handed, handed_work, EachRow, Stands, Packable}
 use Rattle.discs.specs.declared.options.Radius.TheVariants.{Stated}
 use Rattle.discs.specs.declared.rows.Offsets.{Offsets}
+use Rattle.discs.specs.declared.rows.Row.{Row}
 
 -- ---- what is handed in
 
@@ -39,7 +40,7 @@ work_zones (h ∷ hs) = picked (is_left_in h.zone) h (handed_work hs) (work_of (
 
 -- a stated radius asks for no trial and no ceiling
 pub stated_any :
-    (f g : List Rectangle → Float → Bool) (a b : List Rectangle) (r : Float) (c d : Chosen)
+    (f g : List Rectangle → Float → Bool) (a b : List Rectangle) (r : Float) (c d : Option Float)
     → size_for f a (Stated r) c ≡ size_for g b (Stated r) d
 unfolding size_for
 stated_any f g a b r c d = refl
@@ -47,10 +48,10 @@ stated_any f g a b r c d = refl
 -- ---- what the code asks
 
 pub rows_stand :
-    (s rows rings sizes : List ℕ) (coords : List Float) (quotas : List ℕ) (deepest : List Float) (n z : ℕ) (at : Offsets)
-    → EachRow rows rings sizes (Packable s rings sizes coords quotas deepest) n z at
-    → EachRow rows rings sizes (Stands rings sizes coords deepest) n z at
+    (s rings sizes : List ℕ) (coords : List Float) (quotas : List ℕ) (deepest : List Deepest) (rows : List Row) (at : Offsets)
+    → EachRow rings sizes (Packable s rings sizes coords quotas deepest) rows at
+    → EachRow rings sizes (Stands rings sizes coords deepest) rows at
 unfolding EachRow
-rows_stand s rows rings sizes coords quotas deepest zero z at e = tt
-rows_stand s rows rings sizes coords quotas deepest (suc n) z at e =
-    (e.0.stands, rows_stand s rows rings sizes coords quotas deepest n (z + 1) (past_row rings sizes (row_of rows z) at) e.1)
+rows_stand s rings sizes coords quotas deepest [] at e = tt
+rows_stand s rings sizes coords quotas deepest (row ∷ rows) at e =
+    (e.0.stands, rows_stand s rings sizes coords quotas deepest rows (past_row rings sizes row at) e.1)

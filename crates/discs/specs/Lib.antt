@@ -1,10 +1,12 @@
 pub mod Region
 pub mod Searches
 pub mod Pieces
+pub mod Slices
 pub mod PieceLaws
 pub mod Joined
 pub mod Radius
 pub mod PlaceGlyphs
 pub mod Floor
+pub mod Bundles
 pub mod Walk
 pub mod FloorLaws

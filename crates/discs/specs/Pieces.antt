@@ -1,9 +1,8 @@
 -- discs.rs, `pack_region`, over a zone that lies in flat slices, with its quotas and the deepest points of its pieces handed in. Definitions only.
-use Rattle.std.specs.Prelude.{◌≡◌, ℕ, ◌+◌, ◌*◌, ◌<◌, ◌≤◌, true, false, cond, List, [], ◌∷◌, length, take, drop, ◌==◌, slice_index_or, Float}
+use Rattle.std.specs.Prelude.{◌≡◌, ℕ, ◌*◌, ◌<◌, ◌≤◌, Bool, true, false, cond, List, [], ◌∷◌, length, take, drop, ◌==◌, Float}
 use mathlib.Core.List.{flatten}
-use Rattle.std.specs.Float.{nan}
+use native.Mathlib.Bridge.{le_prop}
 use Rattle.laws.specs.Lists.{written}
-use Rattle.float.specs.Ops.{◌>ᶠ◌, 0ᶠ}
 use Rattle.glyphs.specs.Hash.{fnv1a}
 use Rattle.glyphs.specs.Rect.{rectangles}
 use Rattle.glyphs.specs.Spots.{flat}
@@ -16,7 +15,6 @@ use Rattle.glyphs.specs.declared.rect.Rectangle.{Rectangle}
 use Rattle.glyphs.specs.declared.stream.Stream.{Stream}
 use Rattle.regions.specs.Ring.{Piece, piece_of, sum}
 use Rattle.deepest.specs.declared.search.Deepest.{Deepest}
-use Rattle.deepest.specs.declared.search.Deepest.TheVariants.{Found, Nothing}
 use Rattle.relax.specs.declared.Spreading.{Spreading}
 use Rattle.lattice.specs.declared.context.PackCtx.{PackCtx}
 use Rattle.scatter.specs.Random.{Thrown, pack_random_piece}
@@ -29,20 +27,6 @@ use Rattle.discs.specs.declared.options.GlyphOptions.{GlyphOptions}
 unfoldable pub pieces_of : List ℕ → List ℕ → List Float → List Piece
 pieces_of [] sizes coords = []
 pieces_of (n ∷ rings) sizes coords = piece_of (take n sizes) coords ∷ pieces_of rings (drop n sizes) (drop (sum (take n sizes) * 2) coords)
-
--- a deepest point from its x, y and clearance; there is none where the clearance is not above 0
-unfoldable pub deepest_from : Float → Float → Float → Deepest
-deepest_from x y clearance = cond (clearance >ᶠ 0ᶠ) (Found x y clearance) Nothing
-
--- three floats each
-unfoldable pub deepests_of : List Float → List Deepest
-deepests_of [] = []
-deepests_of (x ∷ []) = []
-deepests_of (x ∷ y ∷ []) = []
-deepests_of (x ∷ y ∷ clearance ∷ rest) = deepest_from x y clearance ∷ deepests_of rest
-
-abbrev pub deepest_at : List Float → ℕ → Deepest
-deepest_at deepest k = deepest_from (slice_index_or deepest (k * 3) nan) (slice_index_or deepest (k * 3 + 1) nan) (slice_index_or deepest (k * 3 + 2) nan)
 
 -- ---- the packing
 
@@ -67,10 +51,10 @@ pack_pieces_from numbers options ctx obstacles (piece ∷ pieces) (found ∷ dee
     let thrown = pack_quota numbers options ctx obstacles found piece quota rng in
     thrown.placed ∷ pack_pieces_from numbers options ctx obstacles pieces deepests quotas thrown.rng
 
--- the zone in the slices, from the stream of its key
-abbrev pub pack_region_from : Spreading → GlyphOptions → PackCtx → List Float → List ℕ → List ℕ → List ℕ → List Float → List ℕ → List Float → List (List Point)
-pack_region_from numbers options ctx obstacles key rings sizes coords quotas deepest =
-    pack_pieces_from numbers options ctx (rectangles obstacles) (pieces_of rings sizes coords) (deepests_of deepest) quotas (seeded options.seed (fnv1a key))
+-- a zone's pieces, from the stream of its key
+abbrev pub pack_region_from : Spreading → GlyphOptions → PackCtx → List Float → List ℕ → List Piece → List ℕ → List Deepest → List (List Point)
+pack_region_from numbers options ctx obstacles key pieces quotas deepests =
+    pack_pieces_from numbers options ctx (rectangles obstacles) pieces deepests quotas (seeded options.seed (fnv1a key))
 
 -- ---- what the code asks and answers
 
@@ -85,19 +69,25 @@ unfoldable pub Laid : List ℕ → List ℕ → List Float → Type 0
 Laid [] sizes coords = Unit {0}
 Laid (n ∷ rings) sizes coords = Lies n sizes coords × Laid rings (drop n sizes) (drop (sum (take n sizes) * 2) coords)
 
+pub laid_prop : (rings sizes : List ℕ) (coords : List Float) → IsProp (Laid rings sizes coords)
+unfolding Laid
+laid_prop [] sizes coords a b = λ i. tt
+laid_prop (n ∷ rings) sizes coords a b = λ i. (
+  record { some = le_prop a.0.some b.0.some i; sized = le_prop a.0.sized b.0.sized i; within = le_prop a.0.within b.0.within i },
+  laid_prop rings (drop n sizes) (drop (sum (take n sizes) * 2) coords) a.1 b.1 i,
+)
+
 -- each piece has a quota and a deepest point, and what is lent has room for the obstacles and for all marks
-pub record Lent (rings quotas : List ℕ) (deepest obstacles near second flags spots : List Float) : Type 0 where
+pub record Lent (rings quotas : List ℕ) (deepests : List Deepest) (obstacles near second : List Float) (flags : List Bool) (spots : List Float) : Type 0 where
   pub each_quota : length rings ≤ length quotas
-  pub each_deepest : length rings * 3 ≤ length deepest
+  pub each_deepest : length rings ≤ length deepests
   pub room_near : length obstacles ≤ length near
   pub room_second : sum quotas * 2 ≤ length second
   pub room_flags : sum quotas ≤ length flags
   pub room_spots : sum quotas * 2 ≤ length spots
 
--- one piece of n marks: it has an outer ring, what is lent has room, and the spots are just as many
-pub record Room (n : ℕ) (sizes : List ℕ) (coords obstacles near second flags spots : List Float) : Type 0 where
-  pub some : 0 < length sizes
-  pub within : sum sizes * 2 ≤ length coords
+-- n marks of one piece: what is lent has room, and the spots are just as many
+pub record Room (n : ℕ) (obstacles near second : List Float) (flags : List Bool) (spots : List Float) : Type 0 where
   pub room_near : length obstacles ≤ length near
   pub room_second : n * 2 ≤ length second
   pub room_flags : n ≤ length flags

@@ -1,5 +1,6 @@
 -- discs.rs, `place_glyphs`: the radius, the trials made for it, and the spots of each piece. Definitions only.
-use Rattle.std.specs.Prelude.{ℕ, Bool, true, false, cond, ◌&&◌, List, [], ◌∷◌, map, length, ◌==◌, nat_lt, Float}
+use Rattle.std.specs.Prelude.{ℕ, Bool, true, false, cond, ◌&&◌, List, [], ◌∷◌, map, length, ◌==◌, nat_lt, Float, None, Some, Option}
+use Rattle.std.specs.Option.{unwrap_or}
 use Rattle.float.specs.Ops.{◌*ᶠ◌, ◌>ᶠ◌, 0ᶠ, ½ᶠ, literal}
 use Rattle.float.specs.Order.{max}
 use Rattle.glyphs.specs.Rect.{is_finite, sanitize_obstacles}
@@ -11,11 +12,7 @@ use Rattle.glyphs.specs.declared.rect.Rectangle.{Rectangle}
 use Rattle.relax.specs.declared.Spreading.{Spreading}
 use Rattle.discs.specs.Radius.{boundary_gap_of, context_at, analytic_r_hi, feasible, auto_radius}
 use Rattle.discs.specs.Region.{Zone, pack_region}
-use Rattle.discs.specs.declared.ceiling.Chosen.{Chosen}
-use Rattle.discs.specs.declared.ceiling.Chosen.TheVariants.{None, Some}
 use Rattle.discs.specs.declared.radius.Size.{Size}
-use Rattle.discs.specs.declared.radius.Sizing.{Sizing}
-use Rattle.discs.specs.declared.radius.Sizing.TheVariants.{Unplaced, At}
 use Rattle.discs.specs.declared.options.GlyphOptions.{GlyphOptions}
 use Rattle.discs.specs.declared.options.Radius.{Radius}
 use Rattle.discs.specs.declared.options.Radius.TheVariants.{Auto, Stated}
@@ -43,27 +40,22 @@ unfoldable pub work_of : List Zone → List Zone
 work_of [] = []
 work_of (zone ∷ zones) = cond (is_left_in zone) (zone ∷ work_of zones) (work_of zones)
 
--- unwrap_or
-abbrev pub or_else : Chosen → Float → Float
-or_else None other = other
-or_else (Some r) other = r
-
 -- given `feasible` for obstacles
 module _ (fits : List Rectangle → Float → Bool) (obstacles : List Rectangle) where
   -- under a ceiling: free of obstacles, then with them down to half of that
   unfoldable pub size_under : Float → Size
   size_under r-hi =
       let free = auto_radius (fits []) r-hi in
-      let r_free = or_else free.best (¼ᶠ *ᶠ r-hi) in
+      let r_free = unwrap_or free.best (¼ᶠ *ᶠ r-hi) in
       let walled = auto_radius (fits obstacles) r-hi in
       cond (length obstacles == 0) (record { radius = r_free; free_trials = free.trials; obstacle_trials = 0 })
-      (record { radius = max (or_else walled.best 0ᶠ) (½ᶠ *ᶠ r_free); free_trials = free.trials; obstacle_trials = walled.trials })
+      (record { radius = max (unwrap_or walled.best 0ᶠ) (½ᶠ *ᶠ r_free); free_trials = free.trials; obstacle_trials = walled.trials })
 
   -- match options.radius, with the ceiling of an automatic one
-  unfoldable pub size_for : Radius → Chosen → Sizing
-  size_for (Stated r) ceiling = cond (r >ᶠ 0ᶠ && is_finite r) (At (record { radius = r; free_trials = 0; obstacle_trials = 0 })) Unplaced
-  size_for Auto None = Unplaced
-  size_for Auto (Some r-hi) = At (size_under r-hi)
+  unfoldable pub size_for : Radius → Option Float → Option Size
+  size_for (Stated r) ceiling = cond (r >ᶠ 0ᶠ && is_finite r) (Some (record { radius = r; free_trials = 0; obstacle_trials = 0 })) None
+  size_for Auto None = None
+  size_for Auto (Some r-hi) = Some (size_under r-hi)
 
 -- PACK, strict where the policy is
 abbrev pub pack : GlyphOptions → PackMode
@@ -85,9 +77,9 @@ module _ (room : ℕ) (numbers : Spreading) (options : GlyphOptions) (given : Li
   abbrev pub unplaced : Placements
   unplaced = record { radius = 0ᶠ; free_trials = 0; obstacle_trials = 0; zones = map (λ (zone : Zone). record { zone = zone; spots = [] }) work }
 
-  unfoldable pub pack_at : Sizing → Placements
-  pack_at Unplaced = unplaced
-  pack_at (At size) =
+  unfoldable pub pack_at : Option Size → Placements
+  pack_at None = unplaced
+  pack_at (Some size) =
       record {
         radius = size.radius;
         free_trials = size.free_trials;
@@ -96,7 +88,7 @@ module _ (room : ℕ) (numbers : Spreading) (options : GlyphOptions) (given : Li
       }
 
   -- where some zone is left in
-  unfoldable pub sizing : Sizing
+  unfoldable pub sizing : Option Size
   sizing = size_for (feasible room numbers options work) obstacles options.radius (analytic_r_hi room work (boundary_gap_of options) options.precision)
 
   -- where none is: the stated radius, or 0

@@ -1,7 +1,8 @@
 -- discs.rs, `analytic_r_hi` and `auto_radius`, with the number of trials. Definitions only.
-use Rattle.std.specs.Prelude.{ℕ, zero, suc, ◌+◌, Bool, true, false, cond, ◌&&◌, List, nat_eq, Float}
+use Rattle.std.specs.Prelude.{ℕ, zero, suc, ◌+◌, Bool, true, false, cond, ◌&&◌, List, nat_eq, Float, None, Some, Option}
 use mathlib.Core.List.{foldl}
 use Rattle.laws.specs.Any.{all}
+use Rattle.std.specs.Option.{unwrap_or}
 use Rattle.float.specs.Ops.{◌+ᶠ◌, ◌-ᶠ◌, ◌*ᶠ◌, ◌/ᶠ◌, ◌≤ᶠ◌, ◌>ᶠ◌, 0ᶠ, -0ᶠ, ½ᶠ, 1ᶠ, ∞, literal}
 use Rattle.float.specs.Order.{min, max, sqrt}
 use Rattle.float.specs.Whole.{as_f64}
@@ -16,12 +17,8 @@ use Rattle.relax.specs.declared.Spreading.{Spreading}
 use Rattle.discs.specs.Region.{Zone, areas, pack_region, placed_in}
 use Rattle.lattice.specs.Uniform.{1e-3ᶠ}
 use Rattle.lattice.specs.declared.context.PackCtx.{PackCtx}
-use Rattle.discs.specs.declared.ceiling.Chosen.{Chosen}
-use Rattle.discs.specs.declared.ceiling.Chosen.TheVariants.{None, Some}
 use Rattle.discs.specs.declared.radius.Search.{Search}
 use Rattle.discs.specs.declared.options.GlyphOptions.{GlyphOptions}
-use Rattle.discs.specs.declared.options.BoundaryGap.{BoundaryGap}
-use Rattle.discs.specs.declared.options.BoundaryGap.TheVariants.{Follows, Own}
 
 -- PI
 abbrev pub π : Float
@@ -35,11 +32,7 @@ gap_of options = max options.gap 0ᶠ
 
 -- options.boundary_gap.unwrap_or(gap).max(0.0)
 abbrev pub boundary_gap_of : GlyphOptions → Float
-boundary_gap_of options = max (own options.boundary_gap) 0ᶠ
-  where
-    own : BoundaryGap → Float
-    own Follows = gap_of options
-    own (Own gap) = gap
+boundary_gap_of options = max (unwrap_or options.boundary_gap (gap_of options)) 0ᶠ
 
 abbrev pub context_at : GlyphOptions → PackMode → Float → PackCtx
 context_at options mode r = record { r = r; gap = gap_of options; boundary_gap = boundary_gap_of options; mode = mode }
@@ -57,10 +50,10 @@ lowered gap n r-hi area Full = r-hi
 lowered gap n r-hi area (Found x y clearance) = min (min r-hi (clearance /ᶠ (1ᶠ +ᶠ gap))) (sqrt (area /ᶠ (as_f64 n *ᶠ π)))
 
 -- (r_hi.is_finite() && r_hi > 0.0).then_some(r_hi)
-unfoldable pub if_positive : Float → Chosen
+unfoldable pub if_positive : Float → Option Float
 if_positive r-hi = cond (is_finite r-hi && r-hi >ᶠ 0ᶠ) (Some r-hi) None
 
-unfoldable pub analytic_r_hi : ℕ → List Zone → Float → Float → Chosen
+unfoldable pub analytic_r_hi : ℕ → List Zone → Float → Float → Option Float
 analytic_r_hi room work gap precision =
     if_positive (foldl (λ (r-hi : Float) (zone : Zone). lowered gap zone.count r-hi (area_of zone.pieces) (poi_with_holes room precision zone.pieces)) ∞ work)
 
@@ -78,7 +71,7 @@ feasible room numbers options work obstacles r =
 -- given `feasible`
 module _ (fits : Float → Bool) (r-hi : Float) where
   -- for _ in 0..24, after `made` trials
-  unfoldable pub halve : ℕ → Float → Float → Chosen → ℕ → Search
+  unfoldable pub halve : ℕ → Float → Float → Option Float → ℕ → Search
   halve zero lo hi best made = record { best = best; trials = made }
   halve (suc turns) lo hi best made =
       let mid = ½ᶠ *ᶠ (lo +ᶠ hi) in

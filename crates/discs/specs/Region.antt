@@ -1,5 +1,5 @@
 -- discs.rs, `pack_region`: a zone's marks over its pieces. Definitions only.
-use Rattle.std.specs.Prelude.{ℕ, ◌+◌, Bool, true, false, cond, List, [], ◌∷◌, map, length, ◌==◌, Float}
+use Rattle.std.specs.Prelude.{ℕ, ◌+◌, Bool, true, false, cond, List, [], ◌∷◌, map, length, ◌==◌, Float, None}
 use Rattle.glyphs.specs.Apportion.{apportion}
 use Rattle.glyphs.specs.Hash.{fnv1a}
 use Rattle.glyphs.specs.Stream.{seeded}
@@ -14,7 +14,6 @@ use Rattle.relax.specs.declared.Spreading.{Spreading}
 use Rattle.lattice.specs.Escape.{point}
 use Rattle.lattice.specs.Uniform.{pack_around}
 use Rattle.scatter.specs.LowDiscrepancy.{lone_anchor, pack_scatter}
-use Rattle.scatter.specs.declared.low.Anchor.TheVariants.{Nowhere}
 use Rattle.deepest.specs.declared.search.Deepest.{Deepest}
 use Rattle.deepest.specs.declared.search.Deepest.TheVariants.{Found, Nothing, Full}
 use Rattle.deepest.specs.Deepest.{poi_with_holes}
@@ -47,8 +46,8 @@ pack_uniform_piece (Found x y clearance) piece n ctx obstacles rectangular = pac
 
 -- pack_low_discrepancy_piece, from the deepest point, which only a lone mark asks for
 unfoldable pub pack_low_discrepancy_piece : Deepest → Piece → ℕ → PackCtx → List Rectangle → List Point
-pack_low_discrepancy_piece Nothing piece n ctx obstacles = pack_scatter Nowhere piece n ctx obstacles
-pack_low_discrepancy_piece Full piece n ctx obstacles = pack_scatter Nowhere piece n ctx obstacles
+pack_low_discrepancy_piece Nothing piece n ctx obstacles = pack_scatter None piece n ctx obstacles
+pack_low_discrepancy_piece Full piece n ctx obstacles = pack_scatter None piece n ctx obstacles
 pack_low_discrepancy_piece (Found x y clearance) piece n ctx obstacles = pack_scatter (lone_anchor (point x y) piece n ctx obstacles) piece n ctx obstacles
 
 -- one piece, by the arrangement; only Random draws from the stream

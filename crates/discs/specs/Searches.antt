@@ -1,9 +1,8 @@
 -- The deepest-point searches that the reference makes. Definitions only.
-use Rattle.std.specs.Prelude.{ℕ, Bool, true, false, cond, ◌&&◌, List, [], ◌∷◌, ◌==◌, nat_lt}
+use Rattle.std.specs.Prelude.{ℕ, Bool, true, false, cond, ◌&&◌, List, [], ◌∷◌, ◌==◌, nat_lt, Some, None, Option}
 use Rattle.float.specs.Ops.{◌>ᶠ◌, 0ᶠ}
 use Rattle.glyphs.specs.Bounds.{ring_bounds}
-use Rattle.glyphs.specs.declared.bounds.Bounds.{Bounds}
-use Rattle.glyphs.specs.declared.bounds.Bounds.TheVariants.{Box, Nothing as Unbounded}
+use Rattle.glyphs.specs.declared.bounds.Extents.{Extents}
 use Rattle.glyphs.specs.declared.options.GlyphArrangement.{GlyphArrangement}
 use Rattle.glyphs.specs.declared.options.GlyphArrangement.TheVariants.{Uniform, Rectangular, LowDiscrepancy, Random}
 use Rattle.regions.specs.Ring.{Piece, outer}
@@ -14,9 +13,9 @@ use Rattle.discs.specs.declared.options.GlyphOptions.{GlyphOptions}
 use Rattle.discs.specs.declared.options.Radius.{Radius}
 use Rattle.discs.specs.declared.options.Radius.TheVariants.{Auto, Stated}
 
-unfoldable pub has_bounds : Bounds → Bool
-has_bounds Unbounded = false
-has_bounds (Box min-x max-x min-y max-y) = true
+unfoldable pub has_bounds : Option Extents → Bool
+has_bounds None = false
+has_bounds (Some bounds) = true
 
 -- at a radius a packer starts from the deepest point: a lattice where it places marks, low discrepancy for a lone mark, Random never
 unfoldable pub starts_deepest : GlyphArrangement → Piece → ℕ → Bool

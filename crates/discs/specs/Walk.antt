@@ -1,12 +1,11 @@
 -- One turn of each walk over the zones and of the search for a radius; with their laws.
 -- Rests on the definitions.
-use Rattle.std.specs.Prelude.{Bool, true, cond, List, Float}
+use Rattle.std.specs.Prelude.{Bool, true, cond, List, Float, Some}
 use Rattle.glyphs.specs.declared.rect.Rectangle.{Rectangle}
 use Rattle.relax.specs.declared.Spreading.{Spreading}
 use Rattle.lattice.specs.declared.context.PackCtx.{PackCtx}
 use Rattle.discs.specs.PlaceGlyphs.{is_left_in}
 use Rattle.discs.specs.Floor.{Handed, lowered_by, holds_all}
-use Rattle.discs.specs.declared.ceiling.Chosen.TheVariants.{Some}
 use Rattle.discs.specs.declared.options.GlyphOptions.{GlyphOptions}
 use Rattle.discs.specs.declared.radius.Bracket.{Bracket}
 

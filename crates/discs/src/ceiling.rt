@@ -1,55 +1,34 @@
 // discs.rs, `analytic_r_hi`: the ceiling of an automatic radius, from deepest points that are handed in.
 ghost use Rattle.std.specs.Prelude.{◌≡◌, ℕ, ◌*◌, ◌≤◌, List, length};
 ghost use Rattle.discs.specs.Radius.{area_of, lowered, if_positive};
-ghost use Rattle.discs.specs.Pieces.{pieces_of, deepests_of, Laid};
+ghost use Rattle.discs.specs.Slices.{pieces_left};
 ghost use Rattle.discs.specs.Floor.{handed_at, work_in, deepest_in, handed_r_hi, EachRow, Stands, start};
 ghost use Rattle.discs.specs.Walk.{lowering};
 
-use crate::piece::deepest_at;
-use crate::region::coords_in;
-use crate::rows::{Offsets, Row, get_row, is_left_in, past_row};
+use crate::pieces::Pieces;
+use crate::rows::{Offsets, Row, is_left_in, past_row, pieces_at};
 use deepest::search::{Deepest, deeper};
 use glyphs::rect::is_finite;
 use regions::area::piece_area;
 
-// A radius, or none.
-#[derive(Clone, Copy)]
-pub enum Chosen {
-    None,
-    Some(f64),
-}
-
 // The area of a zone's pieces.
-fn area_of(rings: &[usize], sizes: &[usize], coords: &[f64]) -> f64
-    requires { Laid rings.now sizes.now coords.now }
-    ensures { result ≡ area_of (pieces_of rings.now sizes.now coords.now) }
+fn area_of(pieces: Pieces<'_>) -> f64
+    ensures { result ≡ area_of (pieces_left pieces.entry) }
 {
     let mut area = -0.0;
-    let mut a = 0;
-    let mut c = 0;
-    let mut k = 0;
-    while k < rings.len() {
-        let b = a + rings[k];
-        let piece = &sizes[a..b];
-        let own = &coords[c..];
-        area = area + piece_area(piece, own);
-        c += coords_in(piece, own);
-        a = b;
-        k += 1;
+    for piece in pieces {
+        area = area + piece_area(piece);
     }
     area
 }
 
 // The deepest of a zone's deepest points: the first of equals.
-fn deepest_in(deepest: &[f64]) -> Deepest
-    ensures { result ≡ deepest_in (deepests_of deepest.now) }
+fn deepest_in(deepest: &[Deepest]) -> Deepest
+    ensures { result ≡ deepest_in deepest.now }
 {
-    let n = deepest.len() / 3;
     let mut best = Deepest::Nothing;
-    let mut k = 0;
-    while k < n {
-        best = deeper(best, deepest_at(deepest, k));
-        k += 1;
+    for found in deepest {
+        best = deeper(best, *found);
     }
     best
 }
@@ -79,7 +58,7 @@ fn lowered_by(
     rings: &[usize],
     sizes: &[usize],
     coords: &[f64],
-    deepest: &[f64],
+    deepest: &[Deepest],
     row: Row,
     at: Offsets,
 ) -> f64
@@ -91,46 +70,35 @@ fn lowered_by(
     }
     let p = at.piece;
     let q = p + row.pieces;
-    let k = at.ring;
-    let c = at.coord;
-    let d = p * 3;
-    let e = q * 3;
-    let area = area_of(&rings[p..q], &sizes[k..], &coords[c..]);
-    let found = deepest_in(&deepest[d..e]);
+    let area = area_of(pieces_at(rings, sizes, coords, row, at));
+    let found = deepest_in(&deepest[p..q]);
     lowered(gap, row.count, r_hi, area, found)
 }
 
 // The radius, where it is one.
-fn if_positive(r_hi: f64) -> Chosen
+fn if_positive(r_hi: f64) -> Option<f64>
     ensures { result ≡ if_positive r_hi }
 {
-    if is_finite(r_hi) & (r_hi > 0.0) {
-        return Chosen::Some(r_hi);
-    }
-    Chosen::None
+    (is_finite(r_hi) & (r_hi > 0.0)).then_some(r_hi)
 }
 
 // The greatest radius that the zones left in may have.
 pub fn analytic_r_hi(
     gap: f64,
-    n: usize,
-    rows: &[usize],
+    rows: &[Row],
     rings: &[usize],
     sizes: &[usize],
     coords: &[f64],
-    deepest: &[f64],
-) -> Chosen
-    requires { (n * 4 ≤ length rows.now) × EachRow rows.now rings.now sizes.now (Stands rings.now sizes.now coords.now deepest.now) n 0 start }
-    ensures { (s quotas : List ℕ) → result ≡ handed_r_hi (work_in s n rows.now rings.now sizes.now coords.now quotas deepest.now) gap }
+    deepest: &[Deepest],
+) -> Option<f64>
+    requires { EachRow rings.now sizes.now (Stands rings.now sizes.now coords.now deepest.now) rows.now start }
+    ensures { (s quotas : List ℕ) → result ≡ handed_r_hi (work_in s rows.now rings.now sizes.now coords.now quotas deepest.now) gap }
 {
     let mut r_hi = 1.0 / 0.0;
     let mut at = Offsets::START;
-    let mut z = 0;
-    while z < n {
-        let row = get_row(rows, z);
-        r_hi = lowered_by(gap, r_hi, rings, sizes, coords, deepest, row, at);
-        at = past_row(rings, sizes, coords, row, at);
-        z += 1;
+    for row in rows {
+        r_hi = lowered_by(gap, r_hi, rings, sizes, coords, deepest, *row, at);
+        at = past_row(rings, sizes, coords, *row, at);
     }
     if_positive(r_hi)
 }

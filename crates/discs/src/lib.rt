@@ -1,9 +1,11 @@
 //! discs.rs: regions over their pieces, the radius, and all marks.
 #![tactic(auto)]
 
+pub mod bundle;
 pub mod ceiling;
 pub mod options;
 pub mod piece;
+pub mod pieces;
 pub mod radius;
 pub mod region;
 pub mod rows;

@@ -1,9 +1,9 @@
 // discs.rs, `pack_region`: one piece, whose deepest point is handed in, by the arrangement.
-ghost use Rattle.std.specs.Prelude.{◌≡◌, ◌+◌, ◌*◌, ◌<◌, ◌≤◌, true, false, length};
+ghost use Rattle.std.specs.Prelude.{◌≡◌, ◌*◌, ◌<◌, ◌≤◌, true, false, length};
 ghost use Rattle.glyphs.specs.Rect.{rectangles};
-ghost use Rattle.regions.specs.Ring.{sum, piece_of};
+ghost use Rattle.regions.specs.Pieces.{rings_of};
 ghost use Rattle.discs.specs.Region.{pack_uniform_piece, pack_low_discrepancy_piece};
-ghost use Rattle.discs.specs.Pieces.{deepest_at, pack_quota, Room, StrictTrial, Packs};
+ghost use Rattle.discs.specs.Pieces.{pack_quota, Room, StrictTrial, Packs};
 
 use crate::options::GlyphOptions;
 use deepest::search::Deepest;
@@ -12,28 +12,15 @@ use glyphs::rect::Point;
 use glyphs::stream::Stream;
 use lattice::context::PackCtx;
 use lattice::uniform::{pack_uniform_piece, probe_uniform_piece};
+use regions::piece::RegionPiece;
 use relax::Spreading;
-use scatter::low::{Anchor, lone_anchor, pack_low_discrepancy_piece};
+use scatter::low::{lone_anchor, pack_low_discrepancy_piece};
 use scatter::random::{Taken, pack_random_piece};
-
-// The deepest point of piece `k`: three floats each.
-pub fn deepest_at(deepest: &[f64], k: usize) -> Deepest
-    requires { k * 3 + 3 ≤ length deepest.now }
-    ensures { result ≡ deepest_at deepest.now k }
-{
-    let at = k * 3;
-    let clearance = deepest[at + 2];
-    if clearance > 0.0 {
-        return Deepest::Found(deepest[at], deepest[at + 1], clearance);
-    }
-    Deepest::Nothing
-}
 
 // A lattice about the deepest point; no marks where there is none. A trial only counts them.
 fn pack_lattice(
     found: Deepest,
-    sizes: &[usize],
-    coords: &[f64],
+    piece: RegionPiece<'_>,
     n: usize,
     ctx: PackCtx,
     obstacles: &[f64],
@@ -42,8 +29,8 @@ fn pack_lattice(
     blocked: &mut [f64],
     spots: &mut [f64],
 ) -> usize
-    requires { (0 < n) × (0 < length sizes.now) × (sum sizes.now * 2 ≤ length coords.now) × (length obstacles.now ≤ length near.old) × (n * 2 ≤ length blocked.old) × (length spots.old ≡ n * 2) × StrictTrial ctx.mode }
-    ensures { Packs ctx.mode n (pack_uniform_piece found (piece_of sizes.now coords.now) n ctx (rectangles obstacles.now) rectangular) result spots.new spots.old }
+    requires { (0 < n) × (length obstacles.now ≤ length near.old) × (n * 2 ≤ length blocked.old) × (length spots.old ≡ n * 2) × StrictTrial ctx.mode }
+    ensures { Packs ctx.mode n (pack_uniform_piece found (rings_of piece.entry) n ctx (rectangles obstacles.now) rectangular) result spots.new spots.old }
 {
     let Deepest::Found(x, y, _) = found else {
         return 0;
@@ -52,8 +39,7 @@ fn pack_lattice(
     if ctx.mode.spread {
         return pack_uniform_piece(
             poi,
-            sizes,
-            coords,
+            piece,
             n,
             ctx,
             obstacles,
@@ -63,38 +49,28 @@ fn pack_lattice(
             spots,
         );
     }
-    probe_uniform_piece(poi, sizes, coords, n, ctx, obstacles, rectangular, near)
+    probe_uniform_piece(poi, piece, n, ctx, obstacles, rectangular, near)
 }
 
 // A sequence of low discrepancy; a lone mark tries the deepest point first.
 fn pack_low_discrepancy(
     found: Deepest,
-    sizes: &[usize],
-    coords: &[f64],
+    piece: RegionPiece<'_>,
     n: usize,
     ctx: PackCtx,
     obstacles: &[f64],
     near: &mut [f64],
     spots: &mut [f64],
 ) -> usize
-    requires { (0 < length sizes.now) × (sum sizes.now * 2 ≤ length coords.now) × (length obstacles.now ≤ length near.old) × (length spots.old ≡ n * 2) }
-    ensures { Packs ctx.mode n (pack_low_discrepancy_piece found (piece_of sizes.now coords.now) n ctx (rectangles obstacles.now)) result spots.new spots.old }
+    requires { (length obstacles.now ≤ length near.old) × (length spots.old ≡ n * 2) }
+    ensures { Packs ctx.mode n (pack_low_discrepancy_piece found (rings_of piece.entry) n ctx (rectangles obstacles.now)) result spots.new spots.old }
 {
     let Deepest::Found(x, y, _) = found else {
-        return pack_low_discrepancy_piece(
-            Anchor::Nowhere,
-            sizes,
-            coords,
-            n,
-            ctx,
-            obstacles,
-            near,
-            spots,
-        );
+        return pack_low_discrepancy_piece(None, piece, n, ctx, obstacles, near, spots);
     };
     let poi = Point { x, y };
-    let anchor = lone_anchor(poi, sizes, coords, n, ctx, obstacles, &mut near[..]);
-    pack_low_discrepancy_piece(anchor, sizes, coords, n, ctx, obstacles, near, spots)
+    let anchor = lone_anchor(poi, piece, n, ctx, obstacles, &mut near[..]);
+    pack_low_discrepancy_piece(anchor, piece, n, ctx, obstacles, near, spots)
 }
 
 // The marks of one piece, passed over where it has none; answers how many are placed, with the stream after them.
@@ -104,17 +80,16 @@ pub fn pack_piece(
     ctx: PackCtx,
     obstacles: &[f64],
     found: Deepest,
-    sizes: &[usize],
-    coords: &[f64],
+    piece: RegionPiece<'_>,
     n: usize,
     rng: Stream,
     near: &mut [f64],
     second: &mut [f64],
-    flags: &mut [f64],
+    flags: &mut [bool],
     spots: &mut [f64],
 ) -> Taken
-    requires { Room n sizes.now coords.now obstacles.now near.old second.old flags.old spots.old × StrictTrial ctx.mode }
-    ensures { Packs ctx.mode n (pack_quota numbers options ctx (rectangles obstacles.now) found (piece_of sizes.now coords.now) n rng).placed result.count spots.new spots.old × (result.rng ≡ (pack_quota numbers options ctx (rectangles obstacles.now) found (piece_of sizes.now coords.now) n rng).rng) }
+    requires { Room n obstacles.now near.old second.old flags.old spots.old × StrictTrial ctx.mode }
+    ensures { Packs ctx.mode n (pack_quota numbers options ctx (rectangles obstacles.now) found (rings_of piece.entry) n rng).placed result.count spots.new spots.old × (result.rng ≡ (pack_quota numbers options ctx (rectangles obstacles.now) found (rings_of piece.entry) n rng).rng) }
 {
     let unwanted = n == 0;
     if unwanted {
@@ -123,25 +98,20 @@ pub fn pack_piece(
     let arrangement = options.arrangement;
     match arrangement {
         GlyphArrangement::Uniform => {
-            let m = pack_lattice(
-                found, sizes, coords, n, ctx, obstacles, false, near, second, spots,
-            );
+            let m = pack_lattice(found, piece, n, ctx, obstacles, false, near, second, spots);
             Taken { count: m, rng }
         }
         GlyphArrangement::Rectangular => {
-            let m = pack_lattice(
-                found, sizes, coords, n, ctx, obstacles, true, near, second, spots,
-            );
+            let m = pack_lattice(found, piece, n, ctx, obstacles, true, near, second, spots);
             Taken { count: m, rng }
         }
         GlyphArrangement::LowDiscrepancy => {
-            let m = pack_low_discrepancy(found, sizes, coords, n, ctx, obstacles, near, spots);
+            let m = pack_low_discrepancy(found, piece, n, ctx, obstacles, near, spots);
             Taken { count: m, rng }
         }
         GlyphArrangement::Random => pack_random_piece(
             numbers,
-            sizes,
-            coords,
+            piece,
             n,
             options.max_attempts,
             ctx,

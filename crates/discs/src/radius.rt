@@ -1,21 +1,21 @@
 // discs.rs: `auto_radius`, and the radius that `place_glyphs` packs at.
-ghost use Rattle.std.specs.Prelude.{◌≡◌};
+ghost use Rattle.std.specs.Prelude.{◌≡◌, ◌≤◌, length};
 ghost use Rattle.glyphs.specs.Rect.{rectangles};
 ghost use Rattle.discs.specs.Radius.{auto_radius};
-ghost use Rattle.discs.specs.PlaceGlyphs.{or_else, size_under, size_for};
-ghost use Rattle.discs.specs.Floor.{work_in, handed_feasible, Floor, Lends};
+ghost use Rattle.discs.specs.PlaceGlyphs.{size_under, size_for};
+ghost use Rattle.discs.specs.Bundles.{zones_work};
+ghost use Rattle.discs.specs.Floor.{handed_feasible};
 ghost use Rattle.discs.specs.Walk.{narrowed};
 
-use crate::ceiling::Chosen;
-use crate::options::{GlyphOptions, Radius};
+use crate::bundle::{Packing, Work, Zones};
+use crate::options::Radius;
 use crate::trial::feasible;
 use glyphs::rect::is_finite;
-use relax::Spreading;
 
 // The radius found, and how many trials were made.
 #[derive(Clone, Copy)]
 pub struct Search {
-    pub best: Chosen,
+    pub best: Option<f64>,
     pub trials: usize,
 }
 
@@ -27,202 +27,98 @@ pub struct Size {
     pub obstacle_trials: usize,
 }
 
-// A size, or none: every count stays unplaced.
-#[derive(Clone, Copy)]
-pub enum Sizing {
-    Unplaced,
-    At(Size),
-}
-
 // What is left of the search: a radius that fits, one that does not, and the best one.
 #[derive(Clone, Copy)]
 pub struct Bracket {
     pub lo: f64,
     pub hi: f64,
-    pub best: Chosen,
+    pub best: Option<f64>,
 }
 
 // The search after a trial of `mid`.
 fn narrowed(bracket: Bracket, mid: f64, fits: bool) -> Bracket
     ensures { result ≡ narrowed bracket mid fits }
 {
-    let best = bracket.best;
     if fits {
         return Bracket {
             lo: mid,
             hi: bracket.hi,
-            best: Chosen::Some(mid),
+            best: Some(mid),
         };
     }
     Bracket {
         lo: bracket.lo,
         hi: mid,
-        best,
+        best: bracket.best,
     }
 }
 
 // The largest radius at which every zone left in holds its marks: one trial, and at most 24 further ones.
 fn auto_radius(
     r_hi: f64,
-    numbers: Spreading,
-    options: GlyphOptions,
-    obstacles: &[f64],
-    s: &[u8],
-    n: usize,
-    rows: &[usize],
-    rings: &[usize],
-    sizes: &[usize],
-    coords: &[f64],
-    quotas: &[usize],
-    deepest: &[f64],
+    packing: Packing<'_>,
+    zones: Zones<'_>,
     near: &mut [f64],
-    second: &mut [f64],
-    flags: &mut [f64],
-    spots: &mut [f64],
+    work: &mut Work<'_>,
 ) -> Search
-    requires { Floor s.now n rows.now rings.now sizes.now coords.now quotas.now deepest.now × Lends obstacles.now near.old second.old flags.old spots.old }
-    ensures { result ≡ auto_radius (handed_feasible numbers options (work_in s.now n rows.now rings.now sizes.now coords.now quotas.now deepest.now) (rectangles obstacles.now)) r_hi }
+    requires { length packing.obstacles.now ≤ length near.old }
+    ensures { result ≡ auto_radius (handed_feasible packing.entry.numbers packing.entry.options (zones_work zones.entry) (rectangles packing.entry.obstacles.now)) r_hi }
 {
-    if feasible(
-        r_hi,
-        numbers,
-        options,
-        obstacles,
-        s,
-        n,
-        rows,
-        rings,
-        sizes,
-        coords,
-        quotas,
-        deepest,
-        &mut near[..],
-        &mut second[..],
-        &mut flags[..],
-        &mut spots[..],
-    ) {
+    if feasible(r_hi, packing, zones, &mut near[..], work) {
         return Search {
-            best: Chosen::Some(r_hi),
+            best: Some(r_hi),
             trials: 1,
         };
     }
     let mut b = Bracket {
         lo: 0.0,
         hi: r_hi,
-        best: Chosen::None,
+        best: None,
     };
-    let mut made = 1;
-    while made < 25 {
+    for made in 1..25 {
         if b.hi - b.lo <= 1e-3 * r_hi {
-            let best = b.best;
-            return Search { best, trials: made };
+            return Search {
+                best: b.best,
+                trials: made,
+            };
         }
         let mid = 0.5 * (b.lo + b.hi);
-        let fits = feasible(
-            mid,
-            numbers,
-            options,
-            obstacles,
-            s,
-            n,
-            rows,
-            rings,
-            sizes,
-            coords,
-            quotas,
-            deepest,
-            &mut near[..],
-            &mut second[..],
-            &mut flags[..],
-            &mut spots[..],
-        );
+        let fits = feasible(mid, packing, zones, &mut near[..], work);
         b = narrowed(b, mid, fits);
-        made += 1;
     }
-    let best = b.best;
-    Search { best, trials: made }
-}
-
-fn or_else(best: Chosen, other: f64) -> f64
-    ensures { result ≡ or_else best other }
-{
-    let Chosen::Some(r) = best else {
-        return other;
-    };
-    r
+    Search {
+        best: b.best,
+        trials: 25,
+    }
 }
 
 // The size under a ceiling: free of obstacles, then with them down to half of that.
 fn size_under(
     r_hi: f64,
-    numbers: Spreading,
-    options: GlyphOptions,
-    obstacles: &[f64],
-    s: &[u8],
-    n: usize,
-    rows: &[usize],
-    rings: &[usize],
-    sizes: &[usize],
-    coords: &[f64],
-    quotas: &[usize],
-    deepest: &[f64],
+    packing: Packing<'_>,
+    zones: Zones<'_>,
     near: &mut [f64],
-    second: &mut [f64],
-    flags: &mut [f64],
-    spots: &mut [f64],
+    work: &mut Work<'_>,
 ) -> Size
-    requires { Floor s.now n rows.now rings.now sizes.now coords.now quotas.now deepest.now × Lends obstacles.now near.old second.old flags.old spots.old }
-    ensures { result ≡ size_under (handed_feasible numbers options (work_in s.now n rows.now rings.now sizes.now coords.now quotas.now deepest.now)) (rectangles obstacles.now) r_hi }
+    requires { length packing.obstacles.now ≤ length near.old }
+    ensures { result ≡ size_under (handed_feasible packing.entry.numbers packing.entry.options (zones_work zones.entry)) (rectangles packing.entry.obstacles.now) r_hi }
 {
-    let nothing = &obstacles[..0];
-    let free = auto_radius(
-        r_hi,
-        numbers,
-        options,
-        nothing,
-        s,
-        n,
-        rows,
-        rings,
-        sizes,
-        coords,
-        quotas,
-        deepest,
-        &mut near[..],
-        &mut second[..],
-        &mut flags[..],
-        &mut spots[..],
-    );
-    let best = free.best;
-    let r_free = or_else(best, 0.25 * r_hi);
-    if obstacles.len() / 4 == 0 {
+    let unwalled = Packing {
+        obstacles: &packing.obstacles[..0],
+        ..packing
+    };
+    let free = auto_radius(r_hi, unwalled, zones, &mut near[..], work);
+    let r_free = free.best.unwrap_or(0.25 * r_hi);
+    if packing.obstacles.len() / 4 == 0 {
         return Size {
             radius: r_free,
             free_trials: free.trials,
             obstacle_trials: 0,
         };
     }
-    let walled = auto_radius(
-        r_hi,
-        numbers,
-        options,
-        obstacles,
-        s,
-        n,
-        rows,
-        rings,
-        sizes,
-        coords,
-        quotas,
-        deepest,
-        &mut near[..],
-        &mut second[..],
-        &mut flags[..],
-        &mut spots[..],
-    );
-    let best = walled.best;
+    let walled = auto_radius(r_hi, packing, zones, &mut near[..], work);
     Size {
-        radius: float::max(or_else(best, 0.0), 0.5 * r_free),
+        radius: float::max(walled.best.unwrap_or(0.0), 0.5 * r_free),
         free_trials: free.trials,
         obstacle_trials: walled.trials,
     }
@@ -230,56 +126,26 @@ fn size_under(
 
 // The size that the options ask for, with the ceiling of an automatic radius.
 pub fn size_for(
-    ceiling: Chosen,
-    numbers: Spreading,
-    options: GlyphOptions,
-    obstacles: &[f64],
-    s: &[u8],
-    n: usize,
-    rows: &[usize],
-    rings: &[usize],
-    sizes: &[usize],
-    coords: &[f64],
-    quotas: &[usize],
-    deepest: &[f64],
+    ceiling: Option<f64>,
+    packing: Packing<'_>,
+    zones: Zones<'_>,
     near: &mut [f64],
-    second: &mut [f64],
-    flags: &mut [f64],
-    spots: &mut [f64],
-) -> Sizing
-    requires { Floor s.now n rows.now rings.now sizes.now coords.now quotas.now deepest.now × Lends obstacles.now near.old second.old flags.old spots.old }
-    ensures { result ≡ size_for (handed_feasible numbers options (work_in s.now n rows.now rings.now sizes.now coords.now quotas.now deepest.now)) (rectangles obstacles.now) options.radius ceiling }
+    work: &mut Work<'_>,
+) -> Option<Size>
+    requires { length packing.obstacles.now ≤ length near.old }
+    ensures { result ≡ size_for (handed_feasible packing.entry.numbers packing.entry.options (zones_work zones.entry)) (rectangles packing.entry.obstacles.now) packing.entry.options.radius ceiling }
 {
-    let radius = options.radius;
+    let radius = packing.options.radius;
     if let Radius::Stated(r) = radius {
         if (r > 0.0) & is_finite(r) {
-            return Sizing::At(Size {
+            return Some(Size {
                 radius: r,
                 free_trials: 0,
                 obstacle_trials: 0,
             });
         }
-        return Sizing::Unplaced;
+        return None;
     }
-    let Chosen::Some(r_hi) = ceiling else {
-        return Sizing::Unplaced;
-    };
-    Sizing::At(size_under(
-        r_hi,
-        numbers,
-        options,
-        obstacles,
-        s,
-        n,
-        rows,
-        rings,
-        sizes,
-        coords,
-        quotas,
-        deepest,
-        &mut near[..],
-        &mut second[..],
-        &mut flags[..],
-        &mut spots[..],
-    ))
+    let r_hi = ceiling?;
+    Some(size_under(r_hi, packing, zones, &mut near[..], work))
 }

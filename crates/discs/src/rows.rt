@@ -1,12 +1,12 @@
-// The rows of a job's zones, four numbers for each zone, and the walk over them.
-ghost use Rattle.std.specs.Prelude.{◌≡◌, ◌+◌, ◌*◌, ◌≤◌, length, take, drop};
-ghost use Rattle.regions.specs.Ring.{sum};
-ghost use Rattle.discs.specs.Pieces.{Laid};
-ghost use Rattle.discs.specs.Floor.{row_of, row_is_left_in, cut, past_row};
+// The rows of a job's zones, and the walk over them.
+ghost use Rattle.std.specs.Prelude.{◌≡◌, ◌+◌, ◌*◌, ◌≤◌, length, drop};
+ghost use Rattle.discs.specs.Pieces.{pieces_of, Laid};
+ghost use Rattle.discs.specs.Slices.{pieces_left};
+ghost use Rattle.discs.specs.Floor.{row_is_left_in, cut, past_row};
 
-use crate::region::coords_in;
+use crate::pieces::{Pieces, total};
 
-// A zone's four numbers: where its key starts, how long that is, its mark count, its piece count.
+// Of a zone: where its key starts, how long that is, its mark count, its piece count.
 #[derive(Clone, Copy)]
 pub struct Row {
     pub key: usize,
@@ -15,18 +15,13 @@ pub struct Row {
     pub pieces: usize,
 }
 
-// Row `z`.
-pub fn get_row(rows: &[usize], z: usize) -> Row
-    requires { z * 4 + 4 ≤ length rows.now }
-    ensures { result ≡ row_of rows.now z }
-{
-    let k = z * 4;
-    Row {
-        key: rows[k],
-        len: rows[k + 1],
-        count: rows[k + 2],
-        pieces: rows[k + 3],
-    }
+impl Row {
+    pub const EMPTY: Row = Row {
+        key: 0,
+        len: 0,
+        count: 0,
+        pieces: 0,
+    };
 }
 
 // Whether a zone is left in: it has marks and pieces.
@@ -52,18 +47,26 @@ impl Offsets {
     };
 }
 
-// The sizes of the rings of pieces that have so many rings each.
-fn sizes_of<'a>(rings: &[usize], sizes: &'a [usize]) -> &'a [usize]
-    requires { sum rings.now ≤ length sizes.now }
-    ensures { result.now ≡ take (sum rings.now) sizes.now }
+// The pieces of a zone.
+pub fn pieces_at<'a>(
+    rings: &'a [usize],
+    sizes: &'a [usize],
+    coords: &'a [f64],
+    row: Row,
+    at: Offsets,
+) -> Pieces<'a>
+    requires { (at.piece + row.pieces ≤ length rings.now) × (at.ring ≤ length sizes.now) × (at.coord ≤ length coords.now) × Laid (cut at.piece row.pieces rings.now) (drop at.ring sizes.now) (drop at.coord coords.now) }
+    ensures pieces { pieces_left result ≡ pieces_of (cut at.piece row.pieces rings.now) (drop at.ring sizes.now) (drop at.coord coords.now) }
+    ensures rings { result.rings.now ≡ cut at.piece row.pieces rings.now }
 {
-    let mut m = 0;
-    let mut i = 0;
-    while i < rings.len() {
-        m += rings[i];
-        i += 1;
+    let (_, rings) = rings.split_at(at.piece);
+    let (_, sizes) = sizes.split_at(at.ring);
+    let (_, coords) = coords.split_at(at.coord);
+    Pieces {
+        rings: &rings[..row.pieces],
+        sizes,
+        coords,
     }
-    &sizes[..m]
 }
 
 // Where the zone after one starts.
@@ -71,14 +74,12 @@ pub fn past_row(rings: &[usize], sizes: &[usize], coords: &[f64], row: Row, at: 
     requires { (at.piece + row.pieces ≤ length rings.now) × (at.ring ≤ length sizes.now) × (at.coord ≤ length coords.now) × Laid (cut at.piece row.pieces rings.now) (drop at.ring sizes.now) (drop at.coord coords.now) }
     ensures { result ≡ past_row rings.now sizes.now row at }
 {
-    let p = at.piece;
-    let q = p + row.pieces;
-    let k = at.ring;
-    let c = at.coord;
-    let own = sizes_of(&rings[p..q], &sizes[k..]);
+    let (_, rings) = rings.split_at(at.piece);
+    let (_, sizes) = sizes.split_at(at.ring);
+    let (own, _) = sizes.split_at(total(&rings[..row.pieces]));
     Offsets {
-        piece: q,
-        ring: k + own.len(),
-        coord: c + coords_in(own, &coords[c..]),
+        piece: at.piece + row.pieces,
+        ring: at.ring + own.len(),
+        coord: at.coord + total(own) * 2,
     }
 }

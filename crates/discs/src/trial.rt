@@ -1,16 +1,17 @@
 // discs.rs: the trial of a radius, `feasible` in `auto_radius`.
-ghost use Rattle.std.specs.Prelude.{◌≡◌, true, false};
+ghost use Rattle.std.specs.Prelude.{◌≡◌, ◌≤◌, true, false, length};
 ghost use Rattle.glyphs.specs.Rect.{rectangles};
 ghost use Rattle.discs.specs.Radius.{gap_of, boundary_gap_of, context_at};
-ghost use Rattle.discs.specs.Floor.{handed_at, work_in, handed_feasible, Packable, Floor, Lends};
+ghost use Rattle.discs.specs.Bundles.{zones_work};
+ghost use Rattle.discs.specs.Floor.{handed_at, handed_feasible, Packable};
 ghost use Rattle.discs.specs.Walk.{holding};
 
-use crate::options::{BoundaryGap, GlyphOptions};
-use crate::region::probe_region;
-use crate::rows::{Offsets, Row, get_row, is_left_in, past_row};
+use crate::bundle::{Packing, Work, Zones};
+use crate::options::GlyphOptions;
+use crate::region::pack_region;
+use crate::rows::{Offsets, Row, is_left_in, past_row, pieces_at};
 use glyphs::mode::PackMode;
 use lattice::context::PackCtx;
-use relax::Spreading;
 
 // The gap between marks.
 fn gap_of(options: GlyphOptions) -> f64
@@ -23,11 +24,7 @@ fn gap_of(options: GlyphOptions) -> f64
 pub fn boundary_gap_of(options: GlyphOptions) -> f64
     ensures { result ≡ boundary_gap_of options }
 {
-    let own = options.boundary_gap;
-    let BoundaryGap::Own(gap) = own else {
-        return float::max(gap_of(options), 0.0);
-    };
-    float::max(gap, 0.0)
+    float::max(options.boundary_gap.unwrap_or(gap_of(options)), 0.0)
 }
 
 pub fn context_at(options: GlyphOptions, mode: PackMode, r: f64) -> PackCtx
@@ -43,25 +40,16 @@ pub fn context_at(options: GlyphOptions, mode: PackMode, r: f64) -> PackCtx
 
 // Whether a zone holds its marks, in a trial; one that is left out does.
 fn holds(
-    numbers: Spreading,
-    options: GlyphOptions,
+    packing: Packing<'_>,
     ctx: PackCtx,
-    obstacles: &[f64],
-    s: &[u8],
-    rings: &[usize],
-    sizes: &[usize],
-    coords: &[f64],
-    quotas: &[usize],
-    deepest: &[f64],
+    zones: Zones<'_>,
     row: Row,
     at: Offsets,
     near: &mut [f64],
-    second: &mut [f64],
-    flags: &mut [f64],
-    spots: &mut [f64],
+    work: &mut Work<'_>,
 ) -> bool
-    requires { Packable s.now rings.now sizes.now coords.now quotas.now deepest.now row at × Lends obstacles.now near.old second.old flags.old spots.old × (ctx.mode.spread ≡ false) × (ctx.mode.strict_obstacles ≡ true) }
-    ensures { result ≡ holding numbers options ctx (rectangles obstacles.now) (handed_at s.now rings.now sizes.now coords.now quotas.now deepest.now row at) }
+    requires { Packable zones.bytes.now zones.rings.now zones.sizes.now zones.coords.now zones.quotas.now zones.deepest.now row at × (length packing.obstacles.now ≤ length near.old) × (ctx.mode.spread ≡ false) × (ctx.mode.strict_obstacles ≡ true) }
+    ensures { result ≡ holding packing.entry.numbers packing.entry.options ctx (rectangles packing.entry.obstacles.now) (handed_at zones.entry.bytes.now zones.entry.rings.now zones.entry.sizes.now zones.entry.coords.now zones.entry.quotas.now zones.entry.deepest.now row at) }
 {
     if !is_left_in(row) {
         return true;
@@ -70,25 +58,19 @@ fn holds(
     let end = key + row.len;
     let p = at.piece;
     let q = p + row.pieces;
-    let k = at.ring;
-    let c = at.coord;
-    let d = p * 3;
-    let e = q * 3;
-    let placed = probe_region(
-        numbers,
-        options,
+    let placed = pack_region(
+        packing.numbers,
+        packing.options,
         ctx,
-        obstacles,
-        &s[key..end],
-        &rings[p..q],
-        &sizes[k..],
-        &coords[c..],
-        &quotas[p..q],
-        &deepest[d..e],
-        &mut near[..],
-        &mut second[..],
-        &mut flags[..],
-        &mut spots[..],
+        packing.obstacles,
+        &zones.bytes[key..end],
+        pieces_at(zones.rings, zones.sizes, zones.coords, row, at),
+        &zones.quotas[p..q],
+        &zones.deepest[p..q],
+        near,
+        &mut work.second[..],
+        &mut work.flags[..],
+        &mut work.spots[..],
     );
     placed == row.count
 }
@@ -96,52 +78,21 @@ fn holds(
 // Whether every zone left in holds its marks at the radius `r`.
 pub fn feasible(
     r: f64,
-    numbers: Spreading,
-    options: GlyphOptions,
-    obstacles: &[f64],
-    s: &[u8],
-    n: usize,
-    rows: &[usize],
-    rings: &[usize],
-    sizes: &[usize],
-    coords: &[f64],
-    quotas: &[usize],
-    deepest: &[f64],
+    packing: Packing<'_>,
+    zones: Zones<'_>,
     near: &mut [f64],
-    second: &mut [f64],
-    flags: &mut [f64],
-    spots: &mut [f64],
+    work: &mut Work<'_>,
 ) -> bool
-    requires { Floor s.now n rows.now rings.now sizes.now coords.now quotas.now deepest.now × Lends obstacles.now near.old second.old flags.old spots.old }
-    ensures { result ≡ handed_feasible numbers options (work_in s.now n rows.now rings.now sizes.now coords.now quotas.now deepest.now) (rectangles obstacles.now) r }
+    requires { length packing.obstacles.now ≤ length near.old }
+    ensures { result ≡ handed_feasible packing.entry.numbers packing.entry.options (zones_work zones.entry) (rectangles packing.entry.obstacles.now) r }
 {
-    let ctx = context_at(options, PackMode::PROBE, r);
+    let ctx = context_at(packing.options, PackMode::PROBE, r);
     let mut at = Offsets::START;
-    let mut z = 0;
-    while z < n {
-        let row = get_row(rows, z);
-        if !holds(
-            numbers,
-            options,
-            ctx,
-            obstacles,
-            s,
-            rings,
-            sizes,
-            coords,
-            quotas,
-            deepest,
-            row,
-            at,
-            &mut near[..],
-            &mut second[..],
-            &mut flags[..],
-            &mut spots[..],
-        ) {
+    for row in zones.rows {
+        if !holds(packing, ctx, zones, *row, at, &mut near[..], work) {
             return false;
         }
-        at = past_row(rings, sizes, coords, row, at);
-        z += 1;
+        at = past_row(zones.rings, zones.sizes, zones.coords, *row, at);
     }
     true
 }

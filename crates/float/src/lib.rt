@@ -10,7 +10,7 @@ pub use wide::wrapping_mul;
 // The square root.
 mod roots;
 
-pub use roots::{FourRoots, Two, four_roots, hypot, root, two_roots};
+pub use roots::{each_root, hypot, root};
 
 // The sign, and the lesser, the greater and the nearest of given values.
 mod order;

@@ -1,6 +1,6 @@
 // The IEEE 754 square root without the machine's own: a guess in floats, tested exactly in whole numbers, and
 // the digits found one at a time where the test fails.
-ghost use Rattle.std.specs.Prelude.{◌≡◌, ◌+◌, ◌-◌, ◌*◌, ◌^◌, ◌<◌, ◌≤◌, T, from_bits};
+ghost use Rattle.std.specs.Prelude.{◌≡◌, ◌+◌, ◌-◌, ◌*◌, ◌^◌, ◌<◌, ◌≤◌, T, from_bits, map};
 ghost use Rattle.std.specs.Float.{binary64};
 ghost use Rattle.float.specs.Root.{Near, nearest_root, root_of};
 ghost use Rattle.float.specs.Order.{sqrt, hypot};
@@ -31,15 +31,15 @@ fn digit_root(m: u64) -> u64
     if rest > q { q + 1 } else { q }
 }
 
-// A guess at √x from the bit pattern of x: 1 / √x from the pattern, as in the fast inverse square root of Quake III
+// A guess at √x for a normal x above zero: 1 / √x from its bit pattern, as in the fast inverse square root of Quake III
 // Arena, and two steps of Newton's method, with the numbers that leave the least error, give d, to 21 digits. Then s
 // is x * d to some 22 digits, cut by adding and taking away some 2^31 * √x, so that `rest`, what x has above s * s, is
 // exact, and rest / (s + √x), worked out by d and `rest`, is what s lacks. Nothing is proved of the guess: `is_root`
-// tests it. For a normal x below 2^1023 it is the root but for some 3 in 10,000.
-fn root_guess(pattern: u64) -> f64
-    requires { pattern < 0x7ff0_0000_0000_0000 }
+// tests it. For an x below 2^1023 it is the root but for some 3 in 10,000.
+fn root_guess(x: f64) -> f64
+    requires { Normal x }
 {
-    let x = f64::from_bits(pattern);
+    let pattern = f64::to_bits(x);
     let a = f64::from_bits(0x5fdc_0350_c7b5_37a9 - pattern / 2);
     let b = 2.3772155016748284 * a - 1.9876450036639726 * x * a * (a * a);
     let d = 1.5000003679429867 * b - 0.5000000525632304 * x * b * (b * b);
@@ -104,14 +104,14 @@ fn is_scaled_root(m: u64, g: u64, pattern: u64) -> bool
     is_nearest(m << (g % 2), r)
 }
 
-// Whether a guess is seen to be the root of a normal x above zero with the pattern `bits`. What waits for the root
-// can go on from the guess, and does not wait for this.
-fn is_root(bits: u64, guess: f64) -> bool
-    requires normal { 2 ^ 52 ≤ bits }
-    requires finite { bits < 0x7ff0_0000_0000_0000 }
-    ensures { T result → guess ≡ root_of binary64 (from_bits binary64 bits) }
+// Whether a guess is seen to be the root of a normal x above zero. What waits for the root can go on from the guess, and
+// does not wait for this.
+fn is_root(x: f64, guess: f64) -> bool
+    requires { Normal x }
+    ensures { T result → guess ≡ sqrt x }
 {
     if guess > 0.0 {
+        let bits = f64::to_bits(x);
         return is_scaled_root(
             bits % 0x10_0000_0000_0000 + 0x10_0000_0000_0000,
             bits / 0x10_0000_0000_0000 + 1021,
@@ -172,9 +172,8 @@ pub fn root(x: f64) -> f64
     ensures { result ≡ sqrt x }
 {
     if is_normal(x) {
-        let bits = f64::to_bits(x);
-        let guess = root_guess(bits);
-        if is_root(bits, guess) {
+        let guess = root_guess(x);
+        if is_root(x, guess) {
             return guess;
         }
     }
@@ -188,62 +187,29 @@ pub fn hypot(a: f64, b: f64) -> f64
     root(a * a + b * b)
 }
 
-// A root of each of two floats.
-#[derive(Clone, Copy)]
-pub struct Two {
-    pub a: f64,
-    pub b: f64,
-}
-
-// Both roots. The guesses at them are worked out side by side.
-pub fn two_roots(x: f64, y: f64) -> Two
-    ensures { (result.a ≡ sqrt x) × (result.b ≡ sqrt y) }
+// The roots of some floats. The guesses at them are worked out side by side.
+pub fn each_root<const N: usize>(xs: [f64; N]) -> [f64; N]
+    ensures { result ≡ map sqrt xs.entry }
 {
-    if is_normal(x) & is_normal(y) {
-        let p = f64::to_bits(x);
-        let q = f64::to_bits(y);
-        let a = root_guess(p);
-        let b = root_guess(q);
-        if is_root(p, a) & is_root(q, b) {
-            return Two { a, b };
+    let mut found = [0.0; N];
+    let mut normal = true;
+    for i in 0..N {
+        normal = normal & is_normal(xs[i]);
+    }
+    if normal {
+        for i in 0..N {
+            found[i] = root_guess(xs[i]);
+        }
+        let mut sure = true;
+        for i in 0..N {
+            sure = sure & is_root(xs[i], found[i]);
+        }
+        if sure {
+            return found;
         }
     }
-    Two {
-        a: root(x),
-        b: root(y),
+    for i in 0..N {
+        found[i] = root(xs[i]);
     }
-}
-
-// A root of each of four floats.
-#[derive(Clone, Copy)]
-pub struct FourRoots {
-    pub a: f64,
-    pub b: f64,
-    pub c: f64,
-    pub d: f64,
-}
-
-// All four roots, likewise.
-pub fn four_roots(x: f64, y: f64, z: f64, w: f64) -> FourRoots
-    ensures { (result.a ≡ sqrt x) × (result.b ≡ sqrt y) × (result.c ≡ sqrt z) × (result.d ≡ sqrt w) }
-{
-    if (is_normal(x) & is_normal(y)) & (is_normal(z) & is_normal(w)) {
-        let p = f64::to_bits(x);
-        let q = f64::to_bits(y);
-        let r = f64::to_bits(z);
-        let s = f64::to_bits(w);
-        let a = root_guess(p);
-        let b = root_guess(q);
-        let c = root_guess(r);
-        let d = root_guess(s);
-        if (is_root(p, a) & is_root(q, b)) & (is_root(r, c) & is_root(s, d)) {
-            return FourRoots { a, b, c, d };
-        }
-    }
-    FourRoots {
-        a: root(x),
-        b: root(y),
-        c: root(z),
-        d: root(w),
-    }
+    found
 }

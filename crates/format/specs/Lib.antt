@@ -1,8 +1,10 @@
 pub mod Rows
+pub mod Refusals
 pub mod Numbers
 pub mod Pieces
 pub mod Steps
 pub mod RowLaws
+pub mod RefusalLaws
 pub mod NumberLaws
 pub mod PieceLaws
 pub mod Back

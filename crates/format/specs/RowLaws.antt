@@ -1,12 +1,11 @@
--- Laws of faults and of runs, for every level: one turn of a loop that counts down, what passes, and which row answers (`search rows`).
+-- Laws of faults and of runs, for every level: one turn of a loop, what passes, and which row answers (`search rows`).
 -- Rests on the kit's laws of lists and tests.
 use Prim.Native.Nat.{ℕ, zero, suc, ◌+◌, ◌-◌, ◌<◌, ◌≤◌}
 use Rattle.std.specs.Prelude.{◌≡◌, Bool, true, false, length, get_or, drop, set, leb, eqb}
 use Rattle.std.proofs.Math.Path.{refl, sym}
 use Rattle.std.proofs.Common.{◌∙◌, zero-add, add-one, drop-drop, rules, le-leb, eq-eqb, ne_eqb}
-use mathlib.Core.List.{List, [], ◌∷◌, ◌++◌, map, flatten, flat_map}
+use mathlib.Core.List.{List, [], ◌∷◌, ◌++◌, append_assoc, append-nil, map, flatten, flat_map}
 use native.Mathlib.Omega.{arith}
-use Rattle.std.proofs.Math.ListN.{length-append}
 use Rattle.std.proofs.lemmas.List.Edits.{sets, sets-eq}
 use Rattle.std.proofs.Math.Seq.{drop-append_seam}
 use Rattle.std.proofs.lemmas.Bool.{lt-leb}
@@ -107,83 +106,76 @@ last_other m n number h e = rw (ne_eqb m n h) e
 
 pub ruleset rows = (row_fault, row_clear, row_has, row_true, row_lacks, row_false, last_has, last_lacks, last_true, last_false, last_same, last_other, rules)
 
--- ---- a loop that counts down: what was known of the n things at `at` is known of the rest after one turn, and at the end
+-- ---- a loop over n things: what was known of those from the i-th on, the first of them at `at`, is known of the rest after one turn, and at the end
 -- The place that the code came to is `to`.
 
-less_one : (n : ℕ) → suc n - 1 ≡ n
-less_one n = omega arith
+rest : (n i : ℕ) → i < n → n - i ≡ suc (n - (i + 1))
+rest n i h = omega arith
+
+none : (n i : ℕ) → n ≤ i → n - i ≡ 0
+none n i h = omega arith
 
 module _ {S : Type 0} (next : S → S) where
   module _ (fault : S → ℕ) where
-    pub stop : {r : ℕ} (n : ℕ) (at : S) → 0 < n → (fault at ≡ 0 → ⊥) → r ≡ faults fault next n at → r ≡ fault at
+    -- the one at `at` has a fault, so that is the first
+    pub faults_stop : {r : ℕ} (n i : ℕ) (at : S) → i < n → (fault at ≡ 0 → ⊥) → r ≡ faults fault next (n - i) at → r ≡ fault at
     unfolding faults
-    stop zero at m h e = absurd (omega arith)
-    stop (suc n) at m h e = e ∙ sym (row_fault (fault at) (fault at) _ refl h refl)
+    faults_stop n i at m h e = rw (rest n i m) at e ∙ sym (row_fault (fault at) (fault at) _ refl h refl)
 
-    pub faults_turn : {r : ℕ} {to : S} (n : ℕ) (at : S) → 0 < n → fault at ≡ 0 → to ≡ next at → r ≡ faults fault next n at → r ≡ faults fault next (n - 1) to
+    pub faults_turn : {r : ℕ} {to : S} (n i : ℕ) (at : S) → i < n → 0 ≡ fault at → to ≡ next at → r ≡ faults fault next (n - i) at → r ≡ faults fault next (n - (i + 1)) to
     unfolding faults
-    faults_turn zero at m h t e = absurd (omega arith)
-    faults_turn (suc n) at m h t e = e ∙ rw (less_one n, t) (sym (row_clear (fault at) (fault at) _ refl h refl))
+    faults_turn n i at m h t e = rw (rest n i m) at e ∙ rw t (sym (row_clear (fault at) (fault at) _ refl (sym h) refl))
 
-    pub faults_end : {r : ℕ} (n : ℕ) (at : S) → n ≤ 0 → r ≡ faults fault next n at → r ≡ 0
+    pub faults_end : {r : ℕ} (n i : ℕ) (at : S) → n ≤ i → r ≡ faults fault next (n - i) at → 0 ≡ r
     unfolding faults
-    faults_end zero at h e = e
-    faults_end (suc n) at h e = absurd (omega arith)
+    faults_end n i at h e = sym (rw (none n i h) at e)
 
-  pub past_turn : {r to : S} (n : ℕ) (at : S) → 0 < n → to ≡ next at → r ≡ past next n at → r ≡ past next (n - 1) to
+  pub past_turn : {r to : S} (n i : ℕ) (at : S) → i < n → to ≡ next at → r ≡ past next (n - i) at → r ≡ past next (n - (i + 1)) to
   unfolding past
-  past_turn zero at m t e = absurd (omega arith)
-  past_turn (suc n) at m t e = e ∙ rw (less_one n, t)
+  past_turn n i at m t e = rw (rest n i m) at e ∙ rw t
 
-  pub past_end : {r : S} (n : ℕ) (at : S) → n ≤ 0 → r ≡ past next n at → at ≡ r
+  pub past_end : {r : S} (n i : ℕ) (at : S) → n ≤ i → r ≡ past next (n - i) at → at ≡ r
   unfolding past
-  past_end zero at h e = sym e
-  past_end (suc n) at h e = absurd (omega arith)
+  past_end n i at h e = sym (rw (none n i h) at e)
 
-  -- one store a turn
-  module _ {A : Type 0} (view : S → A) where
-    pub length_each : (n : ℕ) (at : S) → length (each view next n at) ≡ n
+  module _ {A : Type 0} where
+    pub length_each : (view : S → A) (n : ℕ) (at : S) → length (each view next n at) ≡ n
     unfolding each
-    length_each zero at = refl
-    length_each (suc n) at = rw (length_each n (next at))
+    length_each view zero at = refl
+    length_each view (suc n) at = rw (length_each view n (next at))
 
-    pub store_turn :
-        {x out' : List A} {k' : ℕ} {to : S} (out : List A) (k n : ℕ) (at : S) → 0 < n → to ≡ next at → k' ≡ k + 1 → out' ≡ set out k (view at)
-        → x ≡ sets out k (each view next n at) → x ≡ sets out' k' (each view next (n - 1) to)
+    -- one more item a turn
+    pub each_turn :
+        (view : S → A) {x l' : List A} {to : S} (l : List A) (n i : ℕ) (at : S) → i < n → to ≡ next at → l' ≡ l ++ view at ∷ []
+        → x ≡ l ++ each view next (n - i) at → x ≡ l' ++ each view next (n - (i + 1)) to
     unfolding each
-    store_turn out k zero at m t j o e = absurd (omega arith)
-    store_turn out k (suc n) at m t j o e = e ∙ rw (less_one n, t, j, o, add-one)
+    each_turn view l n i at m t o e = rw (rest n i m) at e ∙ rw (t, o, append_assoc)
 
-    pub store_end : {x : List A} (out : List A) (k n : ℕ) (at : S) → n ≤ 0 → x ≡ sets out k (each view next n at) → out ≡ x
+    pub each_end : (view : S → A) {x : List A} (l : List A) (n i : ℕ) (at : S) → n ≤ i → x ≡ l ++ each view next (n - i) at → l ≡ x
     unfolding each
-    store_end out k zero at h e = sym e
-    store_end out k (suc n) at h e = absurd (omega arith)
+    each_end view l n i at h e = sym (rw (none n i h) at e ∙ append-nil l)
 
-  -- some stores a turn
-  module _ {A : Type 0} (view : S → List A) where
-    pub length_turn :
-        {r k' : ℕ} {to : S} (k n : ℕ) (at : S) → 0 < n → to ≡ next at → k' ≡ k + length (view at)
-        → r ≡ k + length (flat view next n at) → r ≡ k' + length (flat view next (n - 1) to)
+    -- some more items a turn
+    pub flat_turn :
+        (view : S → List A) {x l' : List A} {to : S} (l : List A) (n i : ℕ) (at : S) → i < n → to ≡ next at → l' ≡ l ++ view at
+        → x ≡ l ++ flat view next (n - i) at → x ≡ l' ++ flat view next (n - (i + 1)) to
     unfolding flat
-    length_turn k zero at m t j e = absurd (omega arith)
-    length_turn k (suc n) at m t j e = rw (less_one n, t) (omega (arith, length-append (view at) (flat view next n (next at))))
+    flat_turn view l n i at m t o e = rw (rest n i m) at e ∙ rw (t, o, append_assoc)
 
-    pub length_end : {r : ℕ} (k n : ℕ) (at : S) → n ≤ 0 → r ≡ k + length (flat view next n at) → k ≡ r
+    pub flat_end : (view : S → List A) {x : List A} (l : List A) (n i : ℕ) (at : S) → n ≤ i → x ≡ l ++ flat view next (n - i) at → l ≡ x
     unfolding flat
-    length_end k zero at h e = omega arith
-    length_end k (suc n) at h e = absurd (omega arith)
+    flat_end view l n i at h e = sym (rw (none n i h) at e ∙ append-nil l)
 
+    -- some stores a turn
     pub put_turn :
-        {x out' : List A} {k' : ℕ} {to : S} (out : List A) (k n : ℕ) (at : S) → 0 < n → to ≡ next at → k' ≡ k + length (view at) → out' ≡ sets out k (view at)
-        → x ≡ sets out k (flat view next n at) → x ≡ sets out' k' (flat view next (n - 1) to)
+        (view : S → List A) {x out' : List A} {k' : ℕ} {to : S} (out : List A) (k n i : ℕ) (at : S) → i < n → to ≡ next at → k' ≡ k + length (view at) → out' ≡ sets out k (view at)
+        → x ≡ sets out k (flat view next (n - i) at) → x ≡ sets out' k' (flat view next (n - (i + 1)) to)
     unfolding flat
-    put_turn out k zero at m t j o e = absurd (omega arith)
-    put_turn out k (suc n) at m t j o e = e ∙ rw (less_one n, t, j, o) (sets_append out k (view at) (flat view next n (next at)))
+    put_turn view out k n i at m t j o e = rw (rest n i m) at e ∙ rw (t, j, o) (sets_append out k (view at) (flat view next (n - (i + 1)) (next at)))
 
-    pub put_end : {x : List A} (out : List A) (k n : ℕ) (at : S) → n ≤ 0 → x ≡ sets out k (flat view next n at) → out ≡ x
+    pub put_end : (view : S → List A) {x : List A} (out : List A) (k n i : ℕ) (at : S) → n ≤ i → x ≡ sets out k (flat view next (n - i) at) → out ≡ x
     unfolding flat
-    put_end out k zero at h e = sym e
-    put_end out k (suc n) at h e = absurd (omega arith)
+    put_end view out k n i at h e = sym (rw (none n i h) at e)
 
 -- ---- one of them
 

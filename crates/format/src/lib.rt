@@ -3,4 +3,6 @@
 
 pub mod numbers;
 pub mod pieces;
+pub mod reader;
+pub mod refusal;
 pub mod words;

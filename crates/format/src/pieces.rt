@@ -1,107 +1,72 @@
-// The rings and pieces of a job, put into flat slices: the coordinates, the number of vertices of each ring,
-// the number of rings of each piece.
-ghost use Rattle.std.specs.Prelude.{◌+◌, ◌*◌, ◌<◌, ◌≤◌, length};
-ghost use Rattle.format.specs.Steps.{Room, RingRead, RingsRead, PieceRead, PiecesRead};
+// The rings and pieces of a job, laid out flat.
+ghost use Rattle.std.specs.Prelude.{◌≡◌, ◌+◌, ◌*◌, ◌<◌, ◌≤◌, [], ◌∷◌, length, OnOk};
+ghost use Rattle.format.specs.Refusals.{fault_of};
+ghost use Rattle.format.specs.Rows.{faults, past, each, flat};
+ghost use Rattle.format.specs.Numbers.{u8, u16};
+ghost use Rattle.format.specs.Pieces.{ring_fault, ring_end, ring, ring_sizes, piece_fault, piece_end, piece_coords};
+ghost use Rattle.format.specs.Steps.{Room, PiecesPut};
 
-use crate::numbers::{coords, item, uint};
+use crate::reader::Reader;
+use crate::refusal::Refusal;
+use arrayvec::ArrayVec;
 
-// How far a reading has come: the next byte, and the next free place of each slice.
-#[derive(Clone, Copy)]
-pub struct Cursor {
-    pub at: usize,
-    pub coords: usize,
-    pub rings: usize,
-    pub pieces: usize,
+// The coordinates of all rings, end to end; the number of vertices of each ring; the number of rings of each piece.
+// A job of 65,536 bytes has at most so many: each coordinate takes four, and there are at most 64 zones of 16 pieces
+// of 9 rings.
+#[derive(Drop)]
+pub struct Pieces {
+    pub coords: ArrayVec<f64, 16384>,
+    pub sizes: ArrayVec<usize, 9216>,
+    pub rings: ArrayVec<usize, 1024>,
 }
 
-// What a reading found: the fault, and where there is none, how far it came.
-#[derive(Clone, Copy)]
-pub struct Step {
-    pub fault: u8,
-    pub to: Cursor,
-}
-
-fn ring(s: &[u8], c: Cursor, out: &mut [f64], sizes: &mut [usize]) -> Step
-    requires { Room s.now c out.old × (c.rings < length sizes.old) }
-    ensures { RingRead s.now c out.old sizes.old result out.new sizes.new }
-{
-    let at = c.at;
-    let fault = item(s, at, 2, 0, 256, 9);
-    if fault != 0 {
-        return Step { fault, to: c };
-    }
-    let n = uint(s, at, 2) as usize;
-    let m = c.rings;
-    let k = c.coords;
-    sizes[m] = n;
-    let fault = coords(s, at + 2, 2 * n, 13, &mut out[..], k);
-    let to = Cursor {
-        at: at + 2 + 8 * n,
-        coords: k + 2 * n,
-        rings: m + 1,
-        pieces: c.pieces,
-    };
-    Step { fault, to }
-}
-
-fn rings(s: &[u8], c: Cursor, n: usize, out: &mut [f64], sizes: &mut [usize]) -> Step
-    requires { Room s.now c out.old × (c.rings + n ≤ length sizes.old) }
-    ensures { RingsRead s.now n c out.old sizes.old result out.new sizes.new }
-{
-    let mut to = c;
-    let mut left = n;
-    while 0 < left {
-        let step = ring(s, to, &mut out[..], &mut sizes[..]);
-        if step.fault != 0 {
-            return step;
+impl Pieces {
+    pub fn new() -> Pieces
+        ensures { (result.coords.items ≡ []) × (result.sizes.items ≡ []) × (result.rings.items ≡ []) }
+    {
+        Pieces {
+            coords: ArrayVec::new(),
+            sizes: ArrayVec::new(),
+            rings: ArrayVec::new(),
         }
-        to = step.to;
-        left -= 1;
     }
-    Step { fault: 0, to }
-}
 
-fn piece(s: &[u8], c: Cursor, out: &mut [f64], sizes: &mut [usize], counts: &mut [usize]) -> Step
-    requires { Room s.now c out.old × (c.rings + 9 ≤ length sizes.old) × (c.pieces < length counts.old) }
-    ensures { PieceRead s.now c out.old sizes.old counts.old result out.new sizes.new counts.new }
-{
-    let at = c.at;
-    let fault = item(s, at, 1, 1, 9, 9);
-    if fault != 0 {
-        return Step { fault, to: c };
+    fn read_ring(&mut self, job: &mut Reader) -> Result<(), Refusal>
+        requires { Room job.old.bytes.now job.old.at self.old × (length self.old.sizes.items < 9216) }
+        ensures fault { fault_of result ≡ ring_fault job.old.bytes.now job.old.at }
+        ensures read { OnOk result (PiecesPut (ring_end job.old.bytes.now job.old.at) (ring job.old.bytes.now job.old.at) (u16 job.old.bytes.now job.old.at ∷ []) [] self.old job.new.at self.new) }
+        ensures bytes { job.new.bytes ≡ job.old.bytes }
+    {
+        let vertices = job.item(2, 0, 256, Refusal::Count)? as usize;
+        self.sizes.push(vertices);
+        job.coords(2 * vertices, Refusal::Vertex, &mut self.coords)?;
+        Ok(())
     }
-    let n = uint(s, at, 1) as usize;
-    let p = c.pieces;
-    counts[p] = n;
-    let first = Cursor {
-        at: at + 1,
-        coords: c.coords,
-        rings: c.rings,
-        pieces: p + 1,
-    };
-    rings(s, first, n, &mut out[..], &mut sizes[..])
-}
 
-pub fn pieces(
-    s: &[u8],
-    c: Cursor,
-    n: usize,
-    out: &mut [f64],
-    sizes: &mut [usize],
-    counts: &mut [usize],
-) -> Step
-    requires { Room s.now c out.old × (c.rings + 9 * n ≤ length sizes.old) × (c.pieces + n ≤ length counts.old) }
-    ensures { PiecesRead s.now n c out.old sizes.old counts.old result out.new sizes.new counts.new }
-{
-    let mut to = c;
-    let mut left = n;
-    while 0 < left {
-        let step = piece(s, to, &mut out[..], &mut sizes[..], &mut counts[..]);
-        if step.fault != 0 {
-            return step;
+    fn read_piece(&mut self, job: &mut Reader) -> Result<(), Refusal>
+        requires { Room job.old.bytes.now job.old.at self.old × (length self.old.sizes.items + 9 ≤ 9216) × (length self.old.rings.items < 1024) }
+        ensures fault { fault_of result ≡ piece_fault job.old.bytes.now job.old.at }
+        ensures read { OnOk result (PiecesPut (piece_end job.old.bytes.now job.old.at) (piece_coords job.old.bytes.now job.old.at) (ring_sizes job.old.bytes.now job.old.at) (u8 job.old.bytes.now job.old.at ∷ []) self.old job.new.at self.new) }
+        ensures bytes { job.new.bytes ≡ job.old.bytes }
+    {
+        let rings = job.item(1, 1, 9, Refusal::Count)? as usize;
+        self.rings.push(rings);
+        for _i in 0..rings {
+            self.read_ring(job)?;
         }
-        to = step.to;
-        left -= 1;
+        Ok(())
     }
-    Step { fault: 0, to }
+
+    // The next `n` pieces.
+    pub fn read_pieces(&mut self, job: &mut Reader, n: usize) -> Result<(), Refusal>
+        requires { Room job.old.bytes.now job.old.at self.old × (length self.old.sizes.items + 9 * n ≤ 9216) × (length self.old.rings.items + n ≤ 1024) }
+        ensures fault { fault_of result ≡ faults (piece_fault job.old.bytes.now) (piece_end job.old.bytes.now) n job.old.at }
+        ensures read { OnOk result (PiecesPut (past (piece_end job.old.bytes.now) n job.old.at) (flat (piece_coords job.old.bytes.now) (piece_end job.old.bytes.now) n job.old.at) (flat (ring_sizes job.old.bytes.now) (piece_end job.old.bytes.now) n job.old.at) (each (u8 job.old.bytes.now) (piece_end job.old.bytes.now) n job.old.at) self.old job.new.at self.new) }
+        ensures bytes { job.new.bytes ≡ job.old.bytes }
+    {
+        for _i in 0..n {
+            self.read_piece(job)?;
+        }
+        Ok(())
+    }
 }

@@ -9,11 +9,9 @@ pub fn put_uint(out: &mut [u8], at: usize, n: usize, v: u64)
     ensures { out.new ≡ sets out.old at (bytes n v) }
 {
     let mut rest = v;
-    let mut left = n;
-    while 0 < left {
-        left -= 1;
-        out[at + left] = (rest % 256) as u8;
-        rest = rest / 256;
+    for i in (0..n).rev() {
+        out[at + i] = (rest % 256) as u8;
+        rest /= 256;
     }
 }
 
@@ -22,9 +20,10 @@ pub fn put_float(out: &mut [u8], at: usize, x: f64)
     requires { at + 8 ≤ length out.old }
     ensures { out.new ≡ sets out.old at (float_bytes x) }
 {
-    if x != x {
-        put_uint(out, at, 8, 0x7ff8_0000_0000_0000);
+    let bits = if x.is_nan() {
+        0x7ff8_0000_0000_0000
     } else {
-        put_uint(out, at, 8, f64::to_bits(x));
-    }
+        x.to_bits()
+    };
+    put_uint(out, at, 8, bits);
 }

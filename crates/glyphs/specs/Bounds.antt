@@ -1,13 +1,11 @@
 -- glyphs.rs, `ring_bounds`.
-use Rattle.std.specs.Prelude.{◌≡◌, ℕ, zero, suc, cond, ◌&&◌, nat_lt, refl, Float}
+use Rattle.std.specs.Prelude.{◌≡◌, ℕ, zero, suc, cond, ◌&&◌, nat_lt, refl, Option, Some, None, Float}
 use Rattle.std.specs.Float.Ieee
 use Rattle.std.specs.Float.Ieee.{neg}
 use Rattle.float.specs.Ops.{◌/ᶠ◌, ◌>ᶠ◌, 0ᶠ, 1ᶠ, ∞}
 use Rattle.float.specs.Order.{min, max}
 use Rattle.glyphs.specs.Points.{Ring, vertices, x_at, y_at}
 pub use Rattle.glyphs.specs.declared.bounds.Extents.{Extents}
-pub use Rattle.glyphs.specs.declared.bounds.Bounds.{Bounds}
-pub use Rattle.glyphs.specs.declared.bounds.Bounds.TheVariants.{Box, Nothing}
 
 -- f64::NEG_INFINITY
 abbrev pub -∞ : Float
@@ -29,11 +27,11 @@ extents_of ring =
     }
 
 -- (max_x > min_x && max_y > min_y).then_some(..)
-unfoldable pub box_of : Extents → Bounds
-box_of e = cond (e.max_x >ᶠ e.min_x && e.max_y >ᶠ e.min_y) (Box e.min_x e.max_x e.min_y e.max_y) Nothing
+unfoldable pub box_of : Extents → Option Extents
+box_of e = cond (e.max_x >ᶠ e.min_x && e.max_y >ᶠ e.min_y) (Some e) None
 
-unfoldable pub ring_bounds : Ring → Bounds
-ring_bounds ring = cond (nat_lt (vertices ring) 3) Nothing (box_of (extents_of ring))
+unfoldable pub ring_bounds : Ring → Option Extents
+ring_bounds ring = cond (nat_lt (vertices ring) 3) None (box_of (extents_of ring))
 
 -- the code's 1.0 / 0.0 and -1.0 / 0.0
 pub infinite : 1ᶠ /ᶠ 0ᶠ ≡ ∞

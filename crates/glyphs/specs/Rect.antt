@@ -1,12 +1,12 @@
 -- glyphs.rs: `dist_to_rect`, `clear_of_obstacles`, `sanitize_obstacles` and `obstacles_near`.
 -- A list of obstacles is a list of four floats each: centre x, centre y, width, height.
-use Rattle.std.specs.Prelude.{◌≡◌, ℕ, zero, suc, ◌+◌, ◌-◌, ◌*◌, ◌/◌, ◌<◌, ◌≤◌, Bool, true, cond, ◌&&◌, List, [], ◌∷◌, length, slice_index_or, refl, Float}
+use Rattle.std.specs.Prelude.{◌≡◌, ℕ, zero, suc, ◌+◌, ◌-◌, ◌*◌, ◌/◌, ◌<◌, ◌≤◌, Bool, true, cond, ◌&&◌, List, [], ◌∷◌, length, slice_index_or, refl, Option, Some, None, Float}
 use Rattle.std.proofs.Common.{arith}
 use Rattle.std.specs.Float.Ieee
 use Rattle.std.specs.Float.{nan}
 use Rattle.float.specs.Ops.{◌+ᶠ◌, ◌-ᶠ◌, ◌*ᶠ◌, ◌/ᶠ◌, ◌<ᶠ◌, ◌>ᶠ◌, ◌≤ᶠ◌, ◌≥ᶠ◌, 0ᶠ, 1ᶠ, ½ᶠ, ∞}
 use Rattle.float.specs.Order.{abs, max, hypot}
-use Rattle.glyphs.specs.Bounds.{Bounds, Box, Nothing}
+use Rattle.glyphs.specs.Bounds.{Extents}
 use Rattle.glyphs.specs.declared.rect.Rectangle.{Rectangle}
 
 unfoldable pub rect_at : List Float → ℕ → Rectangle
@@ -65,9 +65,9 @@ near rect clearance min-x max-x min-y max-y =
     cx +ᶠ half-w ≥ᶠ min-x && cx -ᶠ half-w ≤ᶠ max-x && cy +ᶠ half-h ≥ᶠ min-y && cy -ᶠ half-h ≤ᶠ max-y
 
 -- the obstacles near a piece, by the bounds of its outer ring
-unfoldable pub obstacles_near : Bounds → List Rectangle → Float → List Rectangle
-obstacles_near Nothing obstacles clearance = []
-obstacles_near (Box min-x max-x min-y max-y) obstacles clearance = filter (λ rect. near rect clearance min-x max-x min-y max-y) obstacles
+unfoldable pub obstacles_near : Option Extents → List Rectangle → Float → List Rectangle
+obstacles_near None obstacles clearance = []
+obstacles_near (Some bounds) obstacles clearance = filter (λ rect. near rect clearance bounds.min_x bounds.max_x bounds.min_y bounds.max_y) obstacles
 
 -- ---- laws
 

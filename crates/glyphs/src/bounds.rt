@@ -21,15 +21,13 @@ pub fn ring_extents(ring: &[f64]) -> Extents
     let mut max_x = -1.0 / 0.0;
     let mut min_y = 1.0 / 0.0;
     let mut max_y = -1.0 / 0.0;
-    let mut i = 0;
-    while i < n {
+    for i in 0..n {
         let x = vx(ring, i);
         let y = vy(ring, i);
         min_x = float::min(min_x, x);
         max_x = float::max(max_x, x);
         min_y = float::min(min_y, y);
         max_y = float::max(max_y, y);
-        i += 1;
     }
     Extents {
         min_x,
@@ -39,22 +37,16 @@ pub fn ring_extents(ring: &[f64]) -> Extents
     }
 }
 
-// The extents of a ring whose width and height are above 0.
-#[derive(Clone, Copy)]
-pub enum Bounds {
-    Box(f64, f64, f64, f64),
-    Nothing,
-}
-
-pub fn ring_bounds(ring: &[f64]) -> Bounds
+// The extents of a ring, where its width and height are above 0.
+pub fn ring_bounds(ring: &[f64]) -> Option<Extents>
     ensures { result ≡ ring_bounds ring.now }
 {
     if ring.len() / 2 < 3 {
-        return Bounds::Nothing;
+        return None;
     }
-    let e = ring_extents(ring);
-    if (e.max_x > e.min_x) & (e.max_y > e.min_y) {
-        return Bounds::Box(e.min_x, e.max_x, e.min_y, e.max_y);
+    let bounds = ring_extents(ring);
+    if (bounds.max_x > bounds.min_x) & (bounds.max_y > bounds.min_y) {
+        return Some(bounds);
     }
-    Bounds::Nothing
+    None
 }

@@ -29,11 +29,9 @@ pub fn put_weights(base: u64, weights: &mut [f64])
 {
     let b = base as f64;
     let mut weight = 1.0 / b;
-    let mut j = 0;
-    while j < 64 {
+    for j in 0..64 {
         weights[j] = weight;
         weight = weight / b;
-        j += 1;
     }
 }
 
@@ -47,11 +45,12 @@ pub fn inverse_by(weights: &[f64], index: u64, base: u64) -> f64
 {
     let mut value = 0.0;
     let mut rest = index;
-    let mut j = 0;
-    while rest > 0 {
-        value = value + ((rest % base) as f64) * weights[j];
+    for weight in weights {
+        if rest == 0 {
+            break;
+        }
+        value = value + ((rest % base) as f64) * *weight;
         rest = rest / base;
-        j += 1;
     }
     value
 }

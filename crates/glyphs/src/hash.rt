@@ -14,10 +14,8 @@ pub fn fnv1a(bytes: &[u8]) -> u64
     ensures { result ≡ fnv1a bytes.now }
 {
     let mut hash = 0xcbf2_9ce4_8422_2325u64;
-    let mut i = 0;
-    while i < bytes.len() {
-        hash = mix_byte(hash, bytes[i]);
-        i += 1;
+    for b in bytes {
+        hash = mix_byte(hash, *b);
     }
     hash
 }

@@ -1,20 +1,19 @@
 // glyphs.rs, `apportion`: a count over weights by largest remainder. The quotas are found one by one: the
 // source's sorted order is asked only how many indices come before one.
-ghost use Rattle.std.specs.Prelude.{◌≡◌, ◌-◌, ◌^◌, ◌<◌, ◌≤◌, length};
+ghost use Rattle.std.specs.Prelude.{◌≡◌, ◌^◌, ◌<◌, ◌≤◌, length};
 ghost use Rattle.laws.specs.Lists.{up_to, written};
-ghost use Rattle.laws.specs.Sorted.{rank, if_lt};
+ghost use Rattle.laws.specs.Sorted.{rank};
+ghost use Rattle.laws.specs.Orders.{is_lt};
 ghost use Rattle.float.specs.Total.{total_key};
 ghost use Rattle.glyphs.specs.Apportion.{total, no_weight, share, whole_share, remainder, rems, by_remainder, apportion};
-ghost use Rattle.glyphs.specs.Quotas.{quota_of, left_over, first_only};
+ghost use Rattle.glyphs.specs.Quotas.{quota_of, left_over};
 
 fn total(weights: &[f64]) -> f64
     ensures { result ≡ total weights.now }
 {
     let mut sum = -0.0;
-    let mut i = 0;
-    while i < weights.len() {
-        sum = sum + weights[i];
-        i += 1;
+    for weight in weights {
+        sum = sum + *weight;
     }
     sum
 }
@@ -51,25 +50,19 @@ fn remainder_key(n: u64, total: f64, w: f64) -> u64
     float::total_key(s - float::floor(s))
 }
 
-// 1 where index j comes before index i, else 0.
-fn before(n: u64, total: f64, weights: &[f64], j: usize, i: usize) -> u64
+// Whether index j comes before index i.
+fn before(n: u64, total: f64, weights: &[f64], j: usize, i: usize) -> bool
     requires exact { n ≤ 2 ^ 53 }
     requires inside_j { j < length weights.now }
     requires inside_i { i < length weights.now }
-    ensures { result ≡ if_lt (by_remainder (rems n total weights.now) j i) }
+    ensures { result ≡ is_lt (by_remainder (rems n total weights.now) j i) }
 {
     let a = remainder_key(n, total, weights[i]);
     let b = remainder_key(n, total, weights[j]);
-    if a < b {
-        return 1;
+    if a != b {
+        return a < b;
     }
-    if b < a {
-        return 0;
-    }
-    if j < i {
-        return 1;
-    }
-    0
+    j < i
 }
 
 // How many indices come before index i.
@@ -78,22 +71,11 @@ fn rank_of(n: u64, total: f64, weights: &[f64], i: usize) -> u64
     requires inside { i < length weights.now }
     ensures { result ≡ rank (by_remainder (rems n total weights.now)) i (up_to (length weights.now)) }
 {
-    let mut r = 0u64;
-    let mut j = 0;
-    while j < weights.len() {
-        r = r + before(n, total, weights, j, i);
-        j += 1;
+    let mut rank = 0;
+    for j in 0..weights.len() {
+        rank += before(n, total, weights, j, i) as u64;
     }
-    r
-}
-
-fn less(a: u64, b: u64) -> u64
-    ensures { result ≡ a - b }
-{
-    if a < b {
-        return 0;
-    }
-    a - b
+    rank
 }
 
 // What the floors leave of n.
@@ -102,21 +84,10 @@ fn left_over(n: u64, total: f64, weights: &[f64]) -> u64
     ensures { result ≡ left_over n total weights.now }
 {
     let mut left = n;
-    let mut i = 0;
-    while i < weights.len() {
-        left = less(left, whole_share(n, total, weights[i]));
-        i += 1;
+    for weight in weights {
+        left = left.saturating_sub(whole_share(n, total, *weight));
     }
     left
-}
-
-fn first_only(n: u64, i: usize) -> u64
-    ensures { result ≡ first_only n i }
-{
-    if i == 0 {
-        return n;
-    }
-    0
 }
 
 // The quota of piece i.
@@ -127,7 +98,7 @@ fn quota_of(n: u64, total: f64, left: u64, weights: &[f64], i: usize) -> u64
     ensures { result ≡ quota_of n total left weights.now i }
 {
     if no_weight(total) {
-        return first_only(n, i);
+        return if i == 0 { n } else { 0 };
     }
     let whole = whole_share(n, total, weights[i]);
     if rank_of(n, total, weights, i) < left {
@@ -143,9 +114,7 @@ pub fn apportion(n: u64, weights: &[f64], quotas: &mut [u64])
 {
     let sum = total(weights);
     let left = left_over(n, sum, weights);
-    let mut i = 0;
-    while i < weights.len() {
+    for i in 0..weights.len() {
         quotas[i] = quota_of(n, sum, left, weights, i);
-        i += 1;
     }
 }

@@ -3,6 +3,8 @@
 ghost use Rattle.std.specs.Prelude.{◌≡◌, ◌/◌, ◌<◌, length};
 ghost use Rattle.glyphs.specs.Rect.{rect_at, rectangles, is_finite, dist_to_rect, clear_of_obstacles, sane, near};
 
+use crate::bounds::Extents;
+
 #[derive(Clone, Copy)]
 pub struct Point {
     pub x: f64,
@@ -76,22 +78,15 @@ pub fn is_sane(rect: Rectangle) -> bool
 }
 
 // Whether `obstacles_near` keeps an obstacle, for a piece within the given bounds.
-pub fn is_near(
-    rect: Rectangle,
-    clearance: f64,
-    min_x: f64,
-    max_x: f64,
-    min_y: f64,
-    max_y: f64,
-) -> bool
-    ensures { result ≡ near rect clearance min_x max_x min_y max_y }
+pub fn is_near(rect: Rectangle, clearance: f64, bounds: Extents) -> bool
+    ensures { result ≡ near rect clearance bounds.min_x bounds.max_x bounds.min_y bounds.max_y }
 {
     let half_w = 0.5 * rect.width + clearance;
     let half_h = 0.5 * rect.height + clearance;
     let cx = rect.center.x;
     let cy = rect.center.y;
-    (cx + half_w >= min_x)
-        & (cx - half_w <= max_x)
-        & (cy + half_h >= min_y)
-        & (cy - half_h <= max_y)
+    (cx + half_w >= bounds.min_x)
+        & (cx - half_w <= bounds.max_x)
+        & (cy + half_h >= bounds.min_y)
+        & (cy - half_h <= bounds.max_y)
 }

@@ -57,10 +57,8 @@ pub fn apart_from_eight(x: f64, y: f64, least: f64, spots: &[f64], k: usize) -> 
     ensures { result ≡ all (apart x y least) (take 8 (drop k (spots_of spots.now))) }
 {
     let mut ok = true;
-    let mut j = 0;
-    while j < 8 {
+    for j in 0..8 {
         ok = ok & apart(x, y, least, spot(spots, k + j));
-        j += 1;
     }
     ok
 }
@@ -72,6 +70,7 @@ pub fn apart_from_all(x: f64, y: f64, least: f64, spots: &[f64]) -> bool
 {
     let n = spots.len() / 2;
     let mut k = 0;
+    // In blocks: a `for` with a step would have to say first where the last one ends.
     while n - k >= 32 {
         if !apart_from_eight(x, y, least, spots, k) {
             return false;
@@ -79,9 +78,8 @@ pub fn apart_from_all(x: f64, y: f64, least: f64, spots: &[f64]) -> bool
         k += 8;
     }
     let mut ok = true;
-    while k < n {
-        ok = ok & apart(x, y, least, spot(spots, k));
-        k += 1;
+    for i in k..n {
+        ok = ok & apart(x, y, least, spot(spots, i));
     }
     ok
 }
@@ -92,10 +90,8 @@ pub fn count_near(x: f64, y: f64, least: f64, spots: &[f64]) -> usize
 {
     let n = spots.len() / 2;
     let mut count = 0;
-    let mut k = 0;
-    while k < n {
+    for k in 0..n {
         count += (!apart(x, y, least, spot(spots, k))) as usize;
-        k += 1;
     }
     count
 }

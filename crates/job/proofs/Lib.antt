@@ -1,4 +1,6 @@
 pub mod Flat
+pub mod Options
+pub mod Letters
+pub mod ByteOrder
 pub mod Examples
 pub mod Known
-pub mod ZoneLaws

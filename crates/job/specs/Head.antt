@@ -1,13 +1,11 @@
 -- The job's first bytes: its length, its version, the packer's options, and the obstacles. What is refused, and what is read. Definitions only.
-use Rattle.std.specs.Prelude.{ℕ, zero, suc, ◌+◌, ◌-◌, ◌*◌, cond, List, length, leb, eqb, Float}
+use Rattle.std.specs.Prelude.{ℕ, zero, suc, ◌+◌, ◌-◌, ◌*◌, cond, List, length, leb, eqb, Float, None, Some, Option}
 use Rattle.glyphs.specs.declared.options.GlyphArrangement.{GlyphArrangement}
 use Rattle.glyphs.specs.declared.options.GlyphArrangement.TheVariants.{Uniform, Rectangular, LowDiscrepancy, Random}
 use Rattle.glyphs.specs.declared.options.ObstaclePolicy.{ObstaclePolicy}
 use Rattle.glyphs.specs.declared.options.ObstaclePolicy.TheVariants.{BestEffort, Strict}
 use Rattle.discs.specs.declared.options.Radius.{Radius}
 use Rattle.discs.specs.declared.options.Radius.TheVariants.{Auto, Stated}
-use Rattle.discs.specs.declared.options.BoundaryGap.{BoundaryGap}
-use Rattle.discs.specs.declared.options.BoundaryGap.TheVariants.{Follows, Own}
 use Rattle.discs.specs.declared.options.GlyphOptions.{GlyphOptions}
 use Rattle.format.specs.Rows.{◌unless◌, ◌or_else◌, faults, each}
 use Rattle.format.specs.Numbers.{u8, u16, u32, u64, u8_in, u16_in, u32_in, whole, share, coord_in, coord_at, next_coord}
@@ -100,8 +98,8 @@ policy_of n = cond (eqb n 0) BestEffort Strict
 unfoldable pub radius_of : ℕ → ℕ → Radius
 radius_of kind n = cond (eqb kind 0) Auto (Stated (share n))
 
-unfoldable pub boundary_of : ℕ → ℕ → BoundaryGap
-boundary_of kind n = cond (eqb kind 0) Follows (Own (share n))
+unfoldable pub boundary_of : ℕ → ℕ → Option Float
+boundary_of kind n = cond (eqb kind 0) None (Some (share n))
 
 unfoldable pub options_of : List ℕ → GlyphOptions
 options_of s =

@@ -1,23 +1,16 @@
 -- Laws of the job's first bytes.
 -- Rests on the laws of rows and items.
-use Rattle.std.specs.Prelude.{ℕ, zero, suc, ◌+◌, ◌*◌, ◌<◌, ◌≤◌, ◌≡◌, refl, List, length, Float}
+use Rattle.std.specs.Prelude.{ℕ, zero, suc, ◌+◌, ◌*◌, ◌≤◌, ◌≡◌, refl, List, length, Float, Option}
 use Rattle.std.proofs.Common.{arith, leb-true}
 use Rattle.glyphs.specs.declared.options.GlyphArrangement.{GlyphArrangement}
 use Rattle.glyphs.specs.declared.options.ObstaclePolicy.{ObstaclePolicy}
 use Rattle.discs.specs.declared.options.Radius.{Radius}
-use Rattle.discs.specs.declared.options.BoundaryGap.{BoundaryGap}
 use Rattle.discs.specs.declared.options.GlyphOptions.{GlyphOptions}
 use Rattle.format.specs.Numbers.{u16, u32_in, coord_at, next_coord}
 use Rattle.format.specs.RowLaws.{both, passed, length_each}
-use Rattle.format.specs.NumberLaws.{item_cut}
 use Rattle.job.specs.Head.{obstacles_at, number_after, measures_fault, head_fault, obstacles}
 
 -- ---- the number after a kind
-
-pub after_cut : (kind : ℕ) (s : List ℕ) (at most : ℕ) → length s < at + 4 → 6 ≡ number_after kind s at most
-unfolding number_after
-after_cut zero s at most h = item_cut 4 s at 0 0 5 h refl
-after_cut (suc kind) s at most h = item_cut 4 s at 0 most 4 h refl
 
 pub after_none : (kind : ℕ) (s : List ℕ) (at most : ℕ) → kind ≡ 0 → u32_in s at 0 0 5 ≡ number_after kind s at most
 unfolding number_after
@@ -45,7 +38,7 @@ length_obstacles s = length_each next_coord (coord_at s) (4 * u16 s obstacles_at
 -- ---- options are equal where their parts are
 
 pub same_options :
-    {a b : GlyphArrangement} {r q : Radius} {g h : Float} {k l : BoundaryGap} {d e : ℕ} {p o : Float} {m n : ℕ} {x y : ObstaclePolicy}
+    {a b : GlyphArrangement} {r q : Radius} {g h : Float} {k l : Option Float} {d e : ℕ} {p o : Float} {m n : ℕ} {x y : ObstaclePolicy}
     → a ≡ b → r ≡ q → g ≡ h → k ≡ l → d ≡ e → p ≡ o → m ≡ n → x ≡ y
     → ◌≡◌ {A = GlyphOptions}
     (record { arrangement = a; radius = r; gap = g; boundary_gap = k; seed = d; precision = p; max_attempts = m; obstacle_policy = x })

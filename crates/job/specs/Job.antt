@@ -1,18 +1,16 @@
 -- The job: what the reader refuses, what it reads, and what the call asks of its lent slices. Definitions only.
-use Rattle.std.specs.Prelude.{ℕ, zero, suc, ◌+◌, ◌*◌, cond, length, drop, leb, eqb, Float}
+use Rattle.std.specs.Prelude.{ℕ, ◌+◌, ◌*◌, cond, length, leb, Float}
 use mathlib.Core.List.{List, [], ◌∷◌, map, flatten, flat_map}
 use Rattle.discs.specs.Region.{Zone}
 use Rattle.discs.specs.PlaceGlyphs.{work_of}
-use Rattle.discs.specs.Floor.{row_of, row_is_left_in}
+use Rattle.discs.specs.Floor.{row_is_left_in}
 use Rattle.discs.specs.declared.options.GlyphOptions.{GlyphOptions}
 use Rattle.discs.specs.declared.rows.Row.{Row}
 use Rattle.glyphs.specs.Points.{vertices}
 use Rattle.format.specs.Rows.{◌unless◌, ◌or_else◌, faults, past, each, flat}
 use Rattle.format.specs.Numbers.{u16, u16_in}
-use Rattle.job.specs.Head.{lent_fault, head_fault, obstacles_at, options_of, obstacles_fault, obstacles_end, obstacles}
+use Rattle.job.specs.Head.{lent_fault, head_fault, options_of, obstacles_fault, obstacles_end, obstacles}
 use Rattle.job.specs.Zones.{Place, zone, zone_end, zone_fault, zone_next, zone_row}
-use Rattle.job.specs.declared.read.Reading.{Reading}
-use Rattle.job.specs.declared.read.Reading.TheVariants.{Refused, Read}
 
 -- ---- zone count u16 0..64, zones, and nothing after them
 
@@ -49,10 +47,6 @@ pub record Job : Type 0 where
 unfoldable pub job_of : List ℕ → Job
 job_of s = record { options = options_of s; obstacles = obstacles s; zones = zones s }
 
--- what the reader answers
-unfoldable pub reading_of : List ℕ → Reading
-reading_of s = cond (eqb (items_fault s) 0) (Read (options_of s) (u16 s obstacles_at) (u16 s (zones_at s))) (Refused (items_fault s))
-
 -- ---- what the reader puts into flat slices
 
 -- the coordinates of all rings, end to end; the number of vertices of each ring; the number of rings of each piece
@@ -66,7 +60,7 @@ unfoldable pub rings_of : List Zone → List ℕ
 rings_of zs = flat_map (λ (z : Zone). map length z.pieces) zs
 
 -- the row of each zone
-unfoldable pub rows_of : List ℕ → List ℕ
+unfoldable pub rows_of : List ℕ → List Row
 rows_of s = flat (zone_row s) (zone_end s) (u16 s (zones_at s)) (zones_at s + 2)
 
 -- ---- row 14, the sheet buffer, by its length
@@ -81,10 +75,10 @@ sheet_room job = 15 + zones_room (work_of job.zones)
 unfoldable pub sheet_fault : Job → ℕ → ℕ
 sheet_fault job sheet = 14 unless leb (sheet_room job) sheet
 
--- the same of n rows
+-- the same of rows
 unfoldable pub row_room : Row → ℕ
 row_room row = cond (row_is_left_in row) (5 + row.len + 16 * row.count) 0
 
-unfoldable pub rows_room : ℕ → List ℕ → ℕ
-rows_room zero rows = 0
-rows_room (suc n) rows = row_room (row_of rows 0) + rows_room n (drop 4 rows)
+unfoldable pub rows_room : List Row → ℕ
+rows_room [] = 0
+rows_room (row ∷ rows) = row_room row + rows_room rows

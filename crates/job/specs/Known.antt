@@ -1,20 +1,18 @@
 -- What is known of a job without fault: the ranges of its options, its coordinates, its zones and their marks.
 -- Rests on the laws of rows and runs, and on coordinates being exact.
-use Rattle.std.specs.Prelude.{ℕ, zero, suc, ◌+◌, ◌≤◌, ◌≡◌, refl, Bool, true, false, cond, List, [], ◌∷◌, length, eqb, Float}
+use Rattle.std.specs.Prelude.{ℕ, zero, suc, ◌+◌, ◌≤◌, ◌≡◌, refl, Bool, true, false, cond, List, [], ◌∷◌, length, eqb, Float, None, Some, Option}
 use Rattle.std.proofs.Common.{arith}
 use Rattle.discs.specs.Region.{Zone}
 use Rattle.discs.specs.declared.options.Radius.{Radius}
 use Rattle.discs.specs.declared.options.Radius.TheVariants.{Auto, Stated}
-use Rattle.discs.specs.declared.options.BoundaryGap.{BoundaryGap}
-use Rattle.discs.specs.declared.options.BoundaryGap.TheVariants.{Follows, Own}
 use Rattle.discs.specs.declared.options.GlyphOptions.{GlyphOptions}
 use Rattle.format.specs.Numbers.{u8, u32, share}
 use Rattle.format.specs.RowLaws.{both}
 use Rattle.format.specs.NumberLaws.{item_passed}
 use Rattle.format.specs.Exact.{Coordinate}
 use Rattle.format.specs.Known.{All, PieceKnown}
-use Rattle.job.specs.Head.{radius_kind_at, radius_at, gap_at, boundary_kind_at, boundary_gap_at, precision_at, attempts_at, number_after, choices_fault, measures_fault, head_fault, radius_of, boundary_of, options_of, obstacles}
-use Rattle.job.specs.Job.{Job, zones}
+use Rattle.job.specs.Head.{radius_kind_at, radius_at, gap_at, boundary_kind_at, boundary_gap_at, precision_at, attempts_at, number_after, choices_fault, measures_fault, head_fault, radius_of, boundary_of, options_of}
+use Rattle.job.specs.Job.{Job}
 
 -- ---- options
 
@@ -29,9 +27,9 @@ abbrev pub RadiusKnown : Radius → Type 0
 RadiusKnown Auto = Unit {0}
 RadiusKnown (Stated x) = Shares 0 1048576 x
 
-abbrev pub BoundaryKnown : BoundaryGap → Type 0
-BoundaryKnown Follows = Unit {0}
-BoundaryKnown (Own x) = Shares 0 16384 x
+abbrev pub BoundaryKnown : Option Float → Type 0
+BoundaryKnown None = Unit {0}
+BoundaryKnown (Some x) = Shares 0 16384 x
 
 pub record OptionsKnown (o : GlyphOptions) : Type 0 where
   pub radius : RadiusKnown o.radius
@@ -49,7 +47,7 @@ radius_known : (b : Bool) (n : ℕ) → n ≤ 1048576 → RadiusKnown (cond b Au
 radius_known true n h = tt
 radius_known false n h = record { number = n; from = omega arith; to = h; is = refl }
 
-boundary_known : (b : Bool) (n : ℕ) → n ≤ 16384 → BoundaryKnown (cond b Follows (Own (share n)))
+boundary_known : (b : Bool) (n : ℕ) → n ≤ 16384 → BoundaryKnown (cond b None (Some (share n)))
 boundary_known true n h = tt
 boundary_known false n h = record { number = n; from = omega arith; to = h; is = refl }
 

@@ -1,5 +1,5 @@
 -- The call, from job bytes to sheet: the number of its refusal, its answer, and what the lent slices hold after it. Definitions only.
-use Rattle.std.specs.Prelude.{ℕ, ◌-◌, cond, ◌||◌, length, replicate, eqb, Float}
+use Rattle.std.specs.Prelude.{ℕ, ◌-◌, cond, ◌||◌, length, replicate, eqb, Float, None, Some, Option}
 use mathlib.Core.List.{List, map, flatten}
 use Rattle.laws.specs.Any.{all}
 use Rattle.laws.specs.Lists.{written}
@@ -12,8 +12,6 @@ use Rattle.discs.specs.declared.options.Radius.{Radius}
 use Rattle.discs.specs.declared.options.Radius.TheVariants.{Auto, Stated}
 use Rattle.discs.specs.Region.{Zone, quotas, placed_in}
 use Rattle.discs.specs.Searches.{searches_in, had_room}
-use Rattle.discs.specs.declared.ceiling.Chosen.{Chosen}
-use Rattle.discs.specs.declared.ceiling.Chosen.TheVariants.{None, Some}
 use Rattle.discs.specs.Radius.{boundary_gap_of, analytic_r_hi}
 use Rattle.discs.specs.PlaceGlyphs.{Placed, Placements, work_of, place_glyphs}
 use Rattle.format.specs.Rows.{◌unless◌, ◌or_else◌}
@@ -37,11 +35,11 @@ search_fault job =
 abbrev pub least_ceiling : Float
 least_ceiling = literal 0x3f50_0000_0000_0000
 
-unfoldable pub low_fault : Chosen → ℕ
+unfoldable pub low_fault : Option Float → ℕ
 low_fault None = 0
 low_fault (Some r-hi) = 16 unless (r-hi ≥ᶠ least_ceiling)
 
-unfoldable pub ceiling_of : GlyphOptions → List Zone → Radius → Chosen
+unfoldable pub ceiling_of : GlyphOptions → List Zone → Radius → Option Float
 ceiling_of options work Auto = analytic_r_hi room work (boundary_gap_of options) options.precision
 ceiling_of options work (Stated r) = None
 

@@ -1,17 +1,17 @@
 -- Laws of rows: what the rows of a job without fault say of its zones, and the room that its sheet may want.
 -- Rests on the laws of runs and zones.
-use Rattle.std.specs.Prelude.{ℕ, zero, suc, ◌+◌, ◌-◌, ◌*◌, ◌≤◌, ◌<◌, ◌≡◌, Bool, true, false, cond, List, ◌∷◌, ◌++◌, length, get_or, take, drop}
+use Rattle.std.specs.Prelude.{ℕ, zero, suc, ◌+◌, ◌*◌, ◌≤◌, ◌≡◌, Bool, true, false, cond, List, [], ◌∷◌, length, take, drop}
 use Rattle.std.proofs.Math.Path.{refl, ap}
-use Rattle.std.proofs.Common.{sym, ◌∙◌, arith, get_or-drop, drop-drop}
-use Rattle.laws.specs.Lists.{written}
-use Rattle.format.specs.Rows.{faults, past, each, flat}
+use Rattle.std.proofs.Common.{sym, ◌∙◌, arith}
+use Rattle.laws.specs.Every.{Every}
+use Rattle.format.specs.Rows.{faults, each, flat}
 use Rattle.format.specs.Numbers.{u8, u16}
 use Rattle.format.specs.Pieces.{piece, piece_end}
-use Rattle.format.specs.RowLaws.{both, faults_at, each_at, length_each}
+use Rattle.format.specs.RowLaws.{both, length_each}
 use Rattle.format.specs.NumberLaws.{item_passed, length_part}
 use Rattle.discs.specs.Region.{Zone}
 use Rattle.discs.specs.PlaceGlyphs.{is_left_in, work_of}
-use Rattle.discs.specs.Floor.{row_of, row_is_left_in}
+use Rattle.discs.specs.Floor.{row_is_left_in}
 use Rattle.discs.specs.declared.rows.Row.{Row}
 use Rattle.job.specs.Zones.{Place, zone, zone_end, zone_next, zone_fault, opening_fault, key_fault, key_at, count_at, pieces_at, row_at, zone_row}
 use Rattle.job.specs.ZoneLaws.{key_inside, opening_passed}
@@ -50,50 +50,35 @@ is_row s z e =
       some = c.pieces;
     }
 
--- ---- by number
+-- each row is the zone's
+unfoldable pub AreRows : List ℕ → List Zone → List Row → Type 0
+AreRows s [] [] = Unit {0}
+AreRows s [] (row ∷ rows) = ⊥
+AreRows s (z ∷ zs) [] = ⊥
+AreRows s (z ∷ zs) (row ∷ rows) = IsRow s z row × AreRows s zs rows
 
-past_at : (s : List ℕ) (i : ℕ) (z : Place) → (past (zone_next s) i z).at ≡ past (zone_end s) i z.at
-unfolding past zone_next
-past_at s zero z = refl
-past_at s (suc i) z = past_at s i (zone_next s z)
+pub rows_fit : (s : List ℕ) (zs : List Zone) (rows : List Row) → AreRows s zs rows → Every Fits rows
+unfolding AreRows
+rows_fit s [] [] r = tt
+rows_fit s [] (row ∷ rows) r = absurd r
+rows_fit s (z ∷ zs) [] r = absurd r
+rows_fit s (z ∷ zs) (row ∷ rows) r = (r.0.fits, rows_fit s zs rows r.1)
 
-past_four : (l : List ℕ) (i j : ℕ) → get_or l (suc i * 4 + j) 0 ≡ get_or (drop 4 l) (i * 4 + j) 0
-past_four l i j =
-    let e : suc i * 4 + j ≡ 4 + (i * 4 + j) = omega arith in
-    rw e (sym (get_or-drop 4 l (i * 4 + j) 0))
+pub length_are : (s : List ℕ) (zs : List Zone) (rows : List Row) → AreRows s zs rows → length rows ≡ length zs
+unfolding AreRows
+length_are s [] [] r = refl
+length_are s [] (row ∷ rows) r = absurd r
+length_are s (z ∷ zs) [] r = absurd r
+length_are s (z ∷ zs) (row ∷ rows) r = ap suc (length_are s zs rows r.1)
 
-row_next : (l : List ℕ) (i : ℕ) → row_of l (suc i) ≡ row_of (drop 4 l) i
-unfolding row_of
-row_next l i =
-    let e : suc i * 4 ≡ suc i * 4 + 0 = omega arith in
-    let f : i * 4 + 0 ≡ i * 4 = omega arith in
-    rw (past_four l i 1, past_four l i 2, past_four l i 3, e, past_four l i 0, f)
-
-first_row_lem : (rows : List ℕ) (z : ℕ) → row_of (drop (z * 4) rows) 0 ≡ row_of rows z
-unfolding row_of
-first_row_lem rows z =
-    let e : z * 4 + 0 ≡ z * 4 = omega arith in
-    rw (get_or-drop (z * 4) rows 0 0, get_or-drop (z * 4) rows 1 0, get_or-drop (z * 4) rows 2 0, get_or-drop (z * 4) rows 3 0, e)
-
--- one turn of a walk over rows
-pub rows_turn : (rows : List ℕ) (z n : ℕ) → z < n → rows_room (n - z) (drop (z * 4) rows) ≡ row_room (row_of rows z) + rows_room (n - (z + 1)) (drop ((z + 1) * 4) rows)
-unfolding rows_room
-rows_turn rows z n h =
-    let e : n - z ≡ suc (n - (z + 1)) = omega arith in
-    let f : z * 4 + 4 ≡ (z + 1) * 4 = omega arith in
-    rw (e, drop-drop 4 (z * 4) rows, f, first_row_lem rows z)
-
-pub rows_end : (rows : List ℕ) (z n : ℕ) → n ≤ z → rows_room (n - z) (drop (z * 4) rows) ≡ 0
-unfolding rows_room
-rows_end rows z n h =
-    let e : n - z ≡ 0 = omega arith in
-    rw e
-
-row_at_lem : (s : List ℕ) (n at : ℕ) (rest : List ℕ) (i : ℕ) → i < n → row_of (flat (zone_row s) (zone_end s) n at ++ rest) i ≡ row_at s (past (zone_end s) i at)
-unfolding flat past zone_row row_of
-row_at_lem s zero at rest i h = absurd (omega arith)
-row_at_lem s (suc n) at rest zero h = refl
-row_at_lem s (suc n) at rest (suc i) h = row_next (flat (zone_row s) (zone_end s) (suc n) at ++ rest) i ∙ row_at_lem s n (zone_end s at) rest i (omega arith)
+rows_are_lem :
+    (s : List ℕ) (n : ℕ) (z : Place) → faults (zone_fault s) (zone_next s) n z ≡ 0
+    → AreRows s (each (zone s) (zone_end s) n z.at) (flat (zone_row s) (zone_end s) n z.at)
+unfolding faults AreRows flat each zone_row zone_next
+rows_are_lem s zero z e = tt
+rows_are_lem s (suc n) z e =
+    let p = both (zone_fault s z) (faults (zone_fault s) (zone_next s) n (zone_next s z)) e in
+    (is_row s z p.0, rows_are_lem s n (zone_next s z) p.1)
 
 -- ---- the room
 
@@ -110,29 +95,23 @@ row_room_lem : (s : List ℕ) (z : Zone) (row : Row) (zs : List Zone) → IsRow 
 unfolding row_room work_of
 row_room_lem s z row zs r = rw (left_in s z row r) (one_room (is_left_in z) z _ (work_of zs) (rw (r.len, r.count)))
 
-rows_room_lem :
-    (s : List ℕ) (n : ℕ) (z : Place) (rest : List ℕ) → faults (zone_fault s) (zone_next s) n z ≡ 0
-    → rows_room n (flat (zone_row s) (zone_end s) n z.at ++ rest) ≡ zones_room (work_of (each (zone s) (zone_end s) n z.at))
-unfolding faults rows_room flat each zone_row zone_next row_of
-rows_room_lem s zero z rest e = unfold work_of zones_room in refl
-rows_room_lem s (suc n) z rest e =
-    let p = both (zone_fault s z) (faults (zone_fault s) (zone_next s) n (zone_next s z)) e in
-    ap (λ (x : ℕ). row_room (row_at s z.at) + x) (rows_room_lem s n (zone_next s z) rest p.1)
-    ∙ row_room_lem s (zone s z.at) (row_at s z.at) (each (zone s) (zone_end s) n (zone_end s z.at)) (is_row s z p.0)
+rows_room_lem : (s : List ℕ) (zs : List Zone) (rows : List Row) → AreRows s zs rows → rows_room rows ≡ zones_room (work_of zs)
+unfolding AreRows rows_room
+rows_room_lem s [] [] r = unfold work_of zones_room in refl
+rows_room_lem s [] (row ∷ rows) r = absurd r
+rows_room_lem s (z ∷ zs) [] r = absurd r
+rows_room_lem s (z ∷ zs) (row ∷ rows) r = ap (λ (x : ℕ). row_room row + x) (rows_room_lem s zs rows r.1) ∙ row_room_lem s z row zs r.0
 
-module _ (s : List ℕ) (ok : items_fault s ≡ 0) (rows : List ℕ) where
+module _ (s : List ℕ) (ok : items_fault s ≡ 0) where
   no_fault : faults (zone_fault s) (zone_next s) (u16 s (zones_at s)) (first_zone s) ≡ 0
   unfolding items_fault zones_fault
   no_fault = (both _ _ (both _ _ (both _ _ (both _ _ ok).1).1).1).0
 
   -- the rows that the reader leaves are the zones', one by one
-  pub rows_are : (d : Zone) (i : ℕ) → i < u16 s (zones_at s) → IsRow s (get_or (zones s) i d) (row_of (written (rows_of s) rows) i)
-  unfolding written rows_of zones
-  rows_are d i h =
-      let z = past (zone_next s) i (first_zone s) in
-      let r = is_row s z (faults_at (zone_next s) (zone_fault s) (u16 s (zones_at s)) (first_zone s) no_fault i h) in
-      rw (each_at (zone_end s) (zone s) (u16 s (zones_at s)) (zones_at s + 2) d i h, row_at_lem s (u16 s (zones_at s)) (zones_at s + 2) (drop (length (rows_of s)) rows) i h, ← past_at s i (first_zone s)) r
+  pub rows_are : AreRows s (zones s) (rows_of s)
+  unfolding rows_of zones
+  rows_are = rows_are_lem s (u16 s (zones_at s)) (first_zone s) no_fault
 
-  pub room_is : 15 + rows_room (u16 s (zones_at s)) (written (rows_of s) rows) ≡ sheet_room (job_of s)
-  unfolding written rows_of zones sheet_room job_of
-  room_is = ap (λ (x : ℕ). 15 + x) (rows_room_lem s (u16 s (zones_at s)) (first_zone s) (drop (length (rows_of s)) rows) no_fault)
+  pub room_is : 15 + rows_room (rows_of s) ≡ sheet_room (job_of s)
+  unfolding sheet_room job_of
+  room_is = ap (λ (x : ℕ). 15 + x) (rows_room_lem s (zones s) (rows_of s) rows_are)

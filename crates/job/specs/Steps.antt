@@ -1,84 +1,49 @@
--- What the functions that read leave behind. Definitions only.
-use Rattle.std.specs.Prelude.{ℕ, ◌+◌, ◌*◌, ◌≤◌, ◌≡◌, List, [], length, take, drop, Float}
+-- What the functions that read leave behind where they find no fault. Definitions only.
+use Rattle.std.specs.Prelude.{ℕ, zero, suc, ◌≡◌, List, Option, None, Some, Float}
 use Rattle.std.proofs.lemmas.List.Edits.{sets}
-use Rattle.format.specs.Rows.{faults, past, flat}
-use Rattle.format.specs.Steps.{PiecesPut}
-use Rattle.format.specs.declared.pieces.Cursor.{Cursor}
-use Rattle.format.specs.declared.pieces.Step.{Step}
-use Rattle.job.specs.declared.zones.Before.{Before}
-use Rattle.job.specs.declared.zones.ZoneStep.{ZoneStep}
-use Rattle.job.specs.Zones.{Place, zone_fault, zone_next, zone_end, zone_coords, zone_sizes, zone_rings, zone_row}
 use Rattle.laws.specs.Lists.{written}
-use Rattle.job.specs.declared.read.Reading.{Reading}
-use Rattle.job.specs.Job.{zones_fault, zones, items_fault, reading_of, coords_of, sizes_of, rings_of, rows_of}
-use Rattle.job.specs.Head.{obstacles_fault, obstacles_end, obstacles}
+use Rattle.discs.specs.declared.rows.Row.{Row}
+use Rattle.format.specs.Rows.{past, flat}
+use Rattle.format.specs.Numbers.{u16, share}
+use Rattle.format.specs.Steps.{PiecesPut}
+use Rattle.format.specs.declared.pieces.Pieces.{Pieces}
+use Rattle.job.specs.declared.before.Before.{Before}
+use Rattle.job.specs.declared.read.Items.{Items}
+use Rattle.job.specs.Head.{options_of, obstacles}
+use Rattle.job.specs.Zones.{Place, zone_next, zone_end, zone_coords, zone_sizes, zone_rings, row_at, zone_row}
+use Rattle.job.specs.Job.{zones_at, zones, coords_of, sizes_of, rings_of, rows_of}
 
--- ---- obstacles
-
-pub record ObstaclesPut (s : List ℕ) (out out' : List Float) : Type 0 where
-  pub inside : obstacles_end s ≤ length s
-  pub put : out' ≡ written (obstacles s) out
-
-pub record ObstaclesRead (s : List ℕ) (out : List Float) (r : ℕ) (out' : List Float) : Type 0 where
-  pub fault : r ≡ obstacles_fault s
-  pub read : r ≡ 0 → ObstaclesPut s out out'
+-- the number after a kind
+abbrev pub number_of_kind : ℕ → ℕ → Option Float
+number_of_kind zero n = None
+number_of_kind (suc kind) n = Some (share n)
 
 -- ---- zones
 
 -- the place of a zone at `at`, by what came before it
-abbrev pub place_of : List ℕ → ℕ → Before → Place
-place_of s at before = record { at = at; last = take before.len (drop before.key s); marks = before.marks }
+abbrev pub place_of : ℕ → Before → Place
+place_of at before = record { at = at; last = before.key.now; marks = before.marks }
 
-pub record Known (s : List ℕ) (before : Before) : Type 0 where
-  pub inside : before.key + before.len ≤ length s
-  pub few : before.marks ≤ 2000
+pub record ZonePut (s : List ℕ) (at : ℕ) (before : Before) (pieces : Pieces) (row : Row) (to : ℕ) (before' : Before) (pieces' : Pieces) : Type 0 where
+  pub put : PiecesPut (zone_end s at) (zone_coords s at) (zone_sizes s at) (zone_rings s at) pieces to pieces'
+  pub numbers : row ≡ row_at s at
+  pub place : place_of to before' ≡ zone_next s (place_of at before)
 
-pub record ZonePut
-    (s : List ℕ) (c : Cursor) (before : Before) (out : List Float) (sizes counts rows : List ℕ) (r : ZoneStep) (out' : List Float) (sizes' counts' rows' : List ℕ) :
-    Type 0 where
-  pub pieces : PiecesPut s c (zone_end s c.at) (zone_coords s c.at) (zone_sizes s c.at) (zone_rings s c.at) out sizes counts r.to out' sizes' counts'
-  pub row : rows' ≡ sets rows (before.zones * 4) (zone_row s c.at)
-  pub zones : r.before.zones ≡ before.zones + 1
-  pub known : Known s r.before
-  pub place : place_of s r.to.at r.before ≡ zone_next s (place_of s c.at before)
-
-pub record ZoneRead
-    (s : List ℕ) (c : Cursor) (before : Before) (out : List Float) (sizes counts rows : List ℕ) (r : ZoneStep) (out' : List Float) (sizes' counts' rows' : List ℕ) :
-    Type 0 where
-  pub fault : r.fault ≡ zone_fault s (place_of s c.at before)
-  pub read : r.fault ≡ 0 → ZonePut s c before out sizes counts rows r out' sizes' counts' rows'
-
-pub record ZonesPut
-    (s : List ℕ) (n : ℕ) (c : Cursor) (out : List Float) (sizes counts rows : List ℕ) (to : Cursor) (out' : List Float) (sizes' counts' rows' : List ℕ) :
-    Type 0 where
-  pub pieces :
-      PiecesPut s c (past (zone_end s) n c.at) (flat (zone_coords s) (zone_end s) n c.at) (flat (zone_sizes s) (zone_end s) n c.at) (flat (zone_rings s) (zone_end s) n c.at) out sizes counts to out' sizes' counts'
-  pub row : rows' ≡ sets rows 0 (flat (zone_row s) (zone_end s) n c.at)
-  pub few_rings : to.rings ≤ c.rings + 144 * n
-  pub few_pieces : to.pieces ≤ c.pieces + 16 * n
-
-pub record ZonesRead
-    (s : List ℕ) (n : ℕ) (c : Cursor) (out : List Float) (sizes counts rows : List ℕ) (r : Step) (out' : List Float) (sizes' counts' rows' : List ℕ) :
-    Type 0 where
-  pub fault : r.fault ≡ faults (zone_fault s) (zone_next s) n (record { at = c.at; last = []; marks = 0 })
-  pub read : r.fault ≡ 0 → ZonesPut s n c out sizes counts rows r.to out' sizes' counts' rows'
+pub record ZonesPut (s : List ℕ) (n at : ℕ) (pieces : Pieces) (rows : List Row) (to : ℕ) (pieces' : Pieces) (rows' : List Row) : Type 0 where
+  pub put : PiecesPut (past (zone_end s) n at) (flat (zone_coords s) (zone_end s) n at) (flat (zone_sizes s) (zone_end s) n at) (flat (zone_rings s) (zone_end s) n at) pieces to pieces'
+  pub row : rows' ≡ sets rows 0 (flat (zone_row s) (zone_end s) n at)
 
 -- ---- the job
 
--- the flat slices hold the zones
-pub record JobPut (s : List ℕ) (out : List Float) (sizes counts rows : List ℕ) (out' : List Float) (sizes' counts' rows' : List ℕ) : Type 0 where
-  pub coords : out' ≡ written (coords_of (zones s)) out
-  pub sized : sizes' ≡ written (sizes_of (zones s)) sizes
-  pub counted : counts' ≡ written (rings_of (zones s)) counts
+-- the n zones are the job's
+pub record JobPut (s : List ℕ) (n : ℕ) (pieces : Pieces) (rows rows' : List Row) : Type 0 where
+  pub count : n ≡ u16 s (zones_at s)
+  pub coords : pieces.coords.items ≡ coords_of (zones s)
+  pub sizes : pieces.sizes.items ≡ sizes_of (zones s)
+  pub rings : pieces.rings.items ≡ rings_of (zones s)
   pub row : rows' ≡ written (rows_of s) rows
 
-pub record TailRead (s : List ℕ) (out : List Float) (sizes counts rows : List ℕ) (r : ℕ) (out' : List Float) (sizes' counts' rows' : List ℕ) : Type 0 where
-  pub fault : r ≡ zones_fault s
-  pub read : r ≡ 0 → JobPut s out sizes counts rows out' sizes' counts' rows'
-
-pub record ItemsRead
-    (s : List ℕ) (obs out : List Float) (sizes counts rows : List ℕ) (r : Reading) (obs' out' : List Float) (sizes' counts' rows' : List ℕ) :
-    Type 0 where
-  pub is : r ≡ reading_of s
-  pub obstacle : items_fault s ≡ 0 → obs' ≡ written (obstacles s) obs
-  pub read : items_fault s ≡ 0 → JobPut s out sizes counts rows out' sizes' counts' rows'
+pub record ItemsRead (s : List ℕ) (items : Items) (pillars : List Float) (pieces : Pieces) (rows rows' : List Row) : Type 0 where
+  pub choices : items.options ≡ options_of s
+  pub pillar : pillars ≡ obstacles s
+  pub put : JobPut s items.zones pieces rows rows'

@@ -71,7 +71,7 @@ zone_few s z e =
       rings = omega (arith, c.pieces, length_each (piece_end s) (u8 s) (pieces_at s z.at) (count_at s z.at + 3));
     }
 
-pub length_row : (s : List ℕ) (at : ℕ) → length (zone_row s at) ≡ 4
+pub length_row : (s : List ℕ) (at : ℕ) → length (zone_row s at) ≡ 1
 unfolding zone_row
 length_row s at = refl
 

@@ -98,8 +98,5 @@ zone_rings s at = each (u8 s) (piece_end s) (pieces_at s at) (count_at s at + 3)
 unfoldable pub row_at : List ℕ → ℕ → Row
 row_at s at = record { key = at + 1; len = u8 s at; count = marks_at s at; pieces = pieces_at s at }
 
-abbrev pub numbers_of : Row → List ℕ
-numbers_of row = row.key ∷ row.len ∷ row.count ∷ row.pieces ∷ []
-
-unfoldable pub zone_row : List ℕ → ℕ → List ℕ
-zone_row s at = numbers_of (row_at s at)
+unfoldable pub zone_row : List ℕ → ℕ → List Row
+zone_row s at = row_at s at ∷ []

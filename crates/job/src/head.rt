@@ -1,169 +1,109 @@
 // The job's first bytes: its length, its version, the packer's options, and the obstacles.
-ghost use Rattle.std.specs.Prelude.{◌≡◌, ◌+◌, ◌^◌, ◌<◌, ◌≤◌, length};
-ghost use Rattle.format.specs.Rows.{◌unless◌, ◌or_else◌};
-ghost use Rattle.format.specs.Numbers.{whole, u8};
-ghost use Rattle.job.specs.Head.{lent_fault, work_fault, number_after, choices_fault, measures_fault, head_fault, arrangement_of, policy_of, radius_of, boundary_of, options_of};
-ghost use Rattle.job.specs.Steps.{ObstaclesRead};
+ghost use Rattle.std.specs.Prelude.{◌≡◌, ◌+◌, ◌^◌, ◌<◌, [], length, IfOk, OnOk};
+ghost use Rattle.format.specs.Refusals.{fault_of};
+ghost use Rattle.format.specs.Rows.{◌or_else◌};
+ghost use Rattle.format.specs.Numbers.{u8, u32, u8_in};
+ghost use Rattle.job.specs.Head.{version_at, arrangement_at, policy_at, radius_kind_at, radius_at, gap_at, obstacles_at, lent_fault, work_fault, number_after, choices_fault, head_fault, arrangement_of, policy_of, radius_of, options_of, obstacles_fault, obstacles_end, obstacles};
+ghost use Rattle.job.specs.Steps.{number_of_kind};
 
-use discs::options::{BoundaryGap, GlyphOptions, Radius};
-use format::numbers::{coords, item, share, uint};
+use arrayvec::ArrayVec;
+use discs::options::{GlyphOptions, Radius};
+use format::numbers::uint;
+use format::reader::Reader;
+use format::refusal::Refusal;
 use glyphs::options::{GlyphArrangement, ObstaclePolicy};
 
-// Row 1, the lent job.
-pub fn lent_fault(s: &[u8]) -> u8
-    ensures { result ≡ lent_fault s.now }
+// Row 1, the lent job. The reader stands behind the length field.
+pub fn open(bytes: &[u8]) -> Result<Reader<'_>, Refusal>
+    ensures fault { fault_of result ≡ lent_fault bytes.now }
+    ensures job { IfOk result (λ job. (job.bytes.now ≡ bytes.now) × (job.at ≡ version_at)) }
 {
-    let n = s.len();
-    if n < 5 {
-        return 1;
+    let n = bytes.len();
+    if n < 5 || 65536 < n || uint(&bytes[..4]) != (n - 4) as u64 {
+        return Err(Refusal::JobLength);
     }
-    if 65536 < n {
-        return 1;
-    }
-    if uint(s, 0, 4) == (n - 4) as u64 {
-        return 0;
-    }
-    1
+    Ok(Reader { bytes, at: 4 })
 }
 
 // Row 2, the work slices, by their lengths.
-pub fn work_fault(first: usize, second: usize) -> u8
-    ensures { result ≡ work_fault first second }
+pub fn check_work(first: usize, second: usize) -> Result<(), Refusal>
+    ensures { fault_of result ≡ work_fault first second }
 {
-    if first < 8000 {
-        return 2;
+    if first < 8000 || second < 8000 {
+        return Err(Refusal::WorkLength);
     }
-    if second < 8000 {
-        return 2;
-    }
-    0
+    Ok(())
 }
 
-// The first fault wins.
-fn or_else(a: u8, b: u8) -> u8
-    ensures { result ≡ a or_else b }
+// A kind, and the number after it: none after kind 0.
+fn read_choice(job: &mut Reader, most: u64) -> Result<Option<f64>, Refusal>
+    requires { most < 2 ^ 32 }
+    ensures fault { fault_of result ≡ u8_in job.old.bytes.now job.old.at 0 1 4 or_else number_after (u8 job.old.bytes.now job.old.at) job.old.bytes.now (job.old.at + 1) most }
+    ensures value { IfOk result (λ number. number ≡ number_of_kind (u8 job.old.bytes.now job.old.at) (u32 job.old.bytes.now (job.old.at + 1))) }
+    ensures next { OnOk result (job.new.at ≡ job.old.at + 5) }
+    ensures bytes { job.new.bytes ≡ job.old.bytes }
 {
-    if a != 0 {
-        return a;
+    let kind = job.item(1, 0, 1, Refusal::HeadValue)?;
+    if kind == 0 {
+        job.item(4, 0, 0, Refusal::NumberAfterKind)?;
+        return Ok(None);
     }
-    b
-}
-
-// What is wrong with a number of 64 bits, whose value is free.
-fn whole(s: &[u8], at: usize) -> u8
-    requires { at + 8 < 2 ^ 64 }
-    ensures { result ≡ 6 unless whole s.now at 8 }
-{
-    if s.len() < at + 8 {
-        return 6;
-    }
-    0
-}
-
-// What is wrong with the number at `at`, whose kind stands before it.
-fn number_after(s: &[u8], kind: usize, at: usize, most: u64) -> u8
-    requires { (kind < at) × (at + 4 < 2 ^ 64) }
-    ensures { result ≡ number_after (u8 s.now kind) s.now at most }
-{
-    if s.len() < at + 4 {
-        return 6;
-    }
-    if uint(s, kind, 1) == 0 {
-        return item(s, at, 4, 0, 0, 5);
-    }
-    item(s, at, 4, 0, most, 4)
-}
-
-// Arrangement, policy, radius.
-fn choices_fault(s: &[u8]) -> u8
-    ensures { result ≡ choices_fault s.now }
-{
-    let arrangement = item(s, 5, 1, 0, 3, 4);
-    let policy = item(s, 6, 1, 0, 1, 4);
-    let kind = item(s, 7, 1, 0, 1, 4);
-    let radius = number_after(s, 7, 8, 1048576);
-    or_else(arrangement, or_else(policy, or_else(kind, radius)))
-}
-
-// Gaps, precision, attempts, seed.
-fn measures_fault(s: &[u8]) -> u8
-    ensures { result ≡ measures_fault s.now }
-{
-    let gap = item(s, 12, 4, 0, 16384, 4);
-    let kind = item(s, 16, 1, 0, 1, 4);
-    let boundary = number_after(s, 16, 17, 16384);
-    let precision = item(s, 21, 4, 1, 1048576, 4);
-    let attempts = item(s, 25, 4, 0, 2000, 4);
-    let seed = whole(s, 29);
-    let last = or_else(precision, or_else(attempts, seed));
-    or_else(gap, or_else(kind, or_else(boundary, last)))
-}
-
-// Rows 3, 4 and 5.
-pub fn head_fault(s: &[u8]) -> u8
-    ensures { result ≡ head_fault s.now }
-{
-    let version = item(s, 4, 1, 1, 1, 3);
-    let choices = choices_fault(s);
-    let measures = measures_fault(s);
-    or_else(version, or_else(choices, measures))
+    Ok(Some(job.share(0, most, Refusal::HeadValue)?))
 }
 
 fn arrangement_of(n: u64) -> GlyphArrangement
     ensures { result ≡ arrangement_of n }
 {
-    if n == 0 {
-        return GlyphArrangement::Uniform;
+    match n {
+        0 => GlyphArrangement::Uniform,
+        1 => GlyphArrangement::Rectangular,
+        2 => GlyphArrangement::LowDiscrepancy,
+        _ => GlyphArrangement::Random,
     }
-    if n == 1 {
-        return GlyphArrangement::Rectangular;
-    }
-    if n == 2 {
-        return GlyphArrangement::LowDiscrepancy;
-    }
-    GlyphArrangement::Random
 }
 
 fn policy_of(n: u64) -> ObstaclePolicy
     ensures { result ≡ policy_of n }
 {
-    if n == 0 {
-        return ObstaclePolicy::BestEffort;
+    match n {
+        0 => ObstaclePolicy::BestEffort,
+        _ => ObstaclePolicy::Strict,
     }
-    ObstaclePolicy::Strict
 }
 
-fn radius_of(kind: u64, n: u32) -> Radius
-    ensures { result ≡ radius_of kind n }
+// Arrangement, policy, radius.
+fn read_choices(job: &mut Reader) -> Result<(GlyphArrangement, ObstaclePolicy, Radius), Refusal>
+    requires { job.old.at ≡ arrangement_at }
+    ensures fault { fault_of result ≡ choices_fault job.old.bytes.now }
+    ensures value { IfOk result (λ choices. choices ≡ (arrangement_of (u8 job.old.bytes.now arrangement_at), policy_of (u8 job.old.bytes.now policy_at), radius_of (u8 job.old.bytes.now radius_kind_at) (u32 job.old.bytes.now radius_at))) }
+    ensures next { OnOk result (job.new.at ≡ gap_at) }
+    ensures bytes { job.new.bytes ≡ job.old.bytes }
 {
-    if kind == 0 {
-        return Radius::Auto;
-    }
-    Radius::Stated(share(n))
+    let arrangement = arrangement_of(job.item(1, 0, 3, Refusal::HeadValue)?);
+    let obstacle_policy = policy_of(job.item(1, 0, 1, Refusal::HeadValue)?);
+    let radius = match read_choice(job, 1048576)? {
+        None => Radius::Auto,
+        Some(radius) => Radius::Stated(radius),
+    };
+    Ok((arrangement, obstacle_policy, radius))
 }
 
-fn boundary_of(kind: u64, n: u32) -> BoundaryGap
-    ensures { result ≡ boundary_of kind n }
+// Rows 3, 4 and 5: the version and the options.
+pub fn read_options(job: &mut Reader) -> Result<GlyphOptions, Refusal>
+    requires { job.old.at ≡ version_at }
+    ensures fault { fault_of result ≡ head_fault job.old.bytes.now }
+    ensures options { IfOk result (λ options. options ≡ options_of job.old.bytes.now) }
+    ensures next { OnOk result (job.new.at ≡ obstacles_at) }
+    ensures bytes { job.new.bytes ≡ job.old.bytes }
 {
-    if kind == 0 {
-        return BoundaryGap::Follows;
-    }
-    BoundaryGap::Own(share(n))
-}
-
-pub fn options_of(s: &[u8]) -> GlyphOptions
-    requires { 37 ≤ length s.now }
-    ensures { result ≡ options_of s.now }
-{
-    let arrangement = arrangement_of(uint(s, 5, 1));
-    let obstacle_policy = policy_of(uint(s, 6, 1));
-    let radius = radius_of(uint(s, 7, 1), uint(s, 8, 4) as u32);
-    let gap = share(uint(s, 12, 4) as u32);
-    let boundary_gap = boundary_of(uint(s, 16, 1), uint(s, 17, 4) as u32);
-    let precision = share(uint(s, 21, 4) as u32);
-    let max_attempts = uint(s, 25, 4) as u32;
-    let seed = uint(s, 29, 8);
-    GlyphOptions {
+    job.item(1, 1, 1, Refusal::Version)?;
+    let (arrangement, obstacle_policy, radius) = read_choices(job)?;
+    let gap = job.share(0, 16384, Refusal::HeadValue)?;
+    let boundary_gap = read_choice(job, 16384)?;
+    let precision = job.share(1, 1048576, Refusal::HeadValue)?;
+    let max_attempts = job.item(4, 0, 2000, Refusal::HeadValue)? as u32;
+    let seed = job.number(8)?;
+    Ok(GlyphOptions {
         arrangement,
         radius,
         gap,
@@ -172,18 +112,18 @@ pub fn options_of(s: &[u8]) -> GlyphOptions
         precision,
         max_attempts,
         obstacle_policy,
-    }
+    })
 }
 
-// Row 8: the obstacles, put into `out`: centre x, centre y, width and height of each.
-pub fn read_obstacles(s: &[u8], out: &mut [f64]) -> u8
-    requires { 256 ≤ length out.old }
-    ensures { ObstaclesRead s.now out.old result out.new }
+// Row 8, the obstacles: centre x, centre y, width and height of each.
+pub fn read_obstacles(job: &mut Reader, out: &mut ArrayVec<f64, 256>) -> Result<(), Refusal>
+    requires { (job.old.at ≡ obstacles_at) × (out.old.items ≡ []) }
+    ensures fault { fault_of result ≡ obstacles_fault job.old.bytes.now }
+    ensures read { OnOk result (out.new.items ≡ obstacles job.old.bytes.now) }
+    ensures next { OnOk result (job.new.at ≡ obstacles_end job.old.bytes.now) }
+    ensures bytes { job.new.bytes ≡ job.old.bytes }
 {
-    let fault = item(s, 37, 2, 0, 64, 8);
-    if fault != 0 {
-        return fault;
-    }
-    let n = uint(s, 37, 2) as usize;
-    coords(s, 39, 4 * n, 8, &mut out[..], 0)
+    let n = job.item(2, 0, 64, Refusal::Obstacle)? as usize;
+    job.coords(4 * n, Refusal::Obstacle, out)?;
+    Ok(())
 }

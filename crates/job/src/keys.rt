@@ -1,93 +1,46 @@
 // The keys of zones.
-ghost use Rattle.std.specs.Prelude.{◌≡◌, ◌+◌, ◌<◌, ◌≤◌, length, take, drop};
-ghost use Rattle.format.specs.Rows.{faults};
-ghost use Rattle.job.specs.Zones.{letter, letter_fault, next_byte, above, key_fault};
+ghost use Rattle.std.specs.Prelude.{◌≡◌, IfOk, OnOk};
+ghost use Rattle.format.specs.Refusals.{fault_of};
+ghost use Rattle.job.specs.Zones.{letter, letter_fault, next_byte, key_at, key_fault, count_at};
 
-use format::numbers::{item, uint};
+use format::reader::Reader;
+use format::refusal::Refusal;
 
-fn letter(b: u64) -> bool
-    ensures { result ≡ letter b }
+fn is_letter(byte: u8) -> bool
+    ensures { result ≡ letter byte }
 {
-    (65 <= b) & (b <= 90) | (97 <= b) & (b <= 122) | (48 <= b) & (b <= 57)
+    byte.is_ascii_alphanumeric()
 }
 
-// What is wrong with the key byte at `at`.
-fn letter_fault(s: &[u8], at: usize) -> u8
-    requires { at ≤ length s.now }
-    ensures { result ≡ letter_fault s.now at }
+// The next byte of a key.
+fn read_letter(job: &mut Reader) -> Result<(), Refusal>
+    ensures fault { fault_of result ≡ letter_fault job.old.bytes.now job.old.at }
+    ensures next { OnOk result (job.new.at ≡ next_byte job.old.at) }
+    ensures bytes { job.new.bytes ≡ job.old.bytes }
 {
-    if s.len() < at + 1 {
-        return 6;
+    let byte = job.number(1)? as u8;
+    if !is_letter(byte) {
+        return Err(Refusal::KeyByte);
     }
-    if letter(uint(s, at, 1)) {
-        return 0;
-    }
-    10
+    Ok(())
 }
 
-// What is wrong with the first of `n` key bytes that is not as it must be.
-fn letters_fault(s: &[u8], from: usize, n: usize) -> u8
-    requires { from ≤ length s.now }
-    ensures { result ≡ faults (letter_fault s.now) next_byte n from }
+// The key of a zone, which is to come after the last one.
+pub fn read_key<'a>(job: &mut Reader<'a>, last: &[u8]) -> Result<&'a [u8], Refusal>
+    ensures fault { fault_of result ≡ key_fault job.old.bytes.now job.old.at last.now }
+    ensures key { IfOk result (λ key. key.now ≡ key_at job.old.bytes.now job.old.at) }
+    ensures next { OnOk result (job.new.at ≡ count_at job.old.bytes.now job.old.at) }
+    ensures bytes { job.new.bytes ≡ job.old.bytes }
 {
-    let mut at = from;
-    let mut left = n;
-    while 0 < left {
-        let fault = letter_fault(s, at);
-        if fault != 0 {
-            return fault;
-        }
-        at += 1;
-        left -= 1;
+    let n = job.item(1, 1, 32, Refusal::Count)? as usize;
+    let start = job.at;
+    for _i in 0..n {
+        read_letter(job)?;
     }
-    0
-}
-
-// Whether the `n` bytes at `a` come after the `m` bytes at `b`.
-fn above(s: &[u8], a: usize, n: usize, b: usize, m: usize) -> bool
-    requires { (a + n ≤ length s.now) × (b + m ≤ length s.now) }
-    ensures { result ≡ above (take n (drop a s.now)) (take m (drop b s.now)) }
-{
-    let mut p = a;
-    let mut x = n;
-    let mut q = b;
-    let mut y = m;
-    while 0 < x {
-        if y == 0 {
-            return true;
-        }
-        let u = s[p];
-        let v = s[q];
-        if v < u {
-            return true;
-        }
-        if u < v {
-            return false;
-        }
-        p += 1;
-        x -= 1;
-        q += 1;
-        y -= 1;
+    let key = &job.bytes[start..job.at];
+    let is_above = key > last;
+    if !is_above {
+        return Err(Refusal::KeyOrder);
     }
-    false
-}
-
-// What is wrong with the key of the zone at `at`, after a key of `len` bytes at `last`.
-pub fn key_fault(s: &[u8], at: usize, last: usize, len: usize) -> u8
-    requires { (at ≤ length s.now) × (last + len ≤ length s.now) }
-    ensures { result ≡ key_fault s.now at (take len (drop last s.now)) }
-{
-    let fault = item(s, at, 1, 1, 32, 9);
-    if fault != 0 {
-        return fault;
-    }
-    let n = uint(s, at, 1) as usize;
-    let fault = letters_fault(s, at + 1, n);
-    if fault != 0 {
-        return fault;
-    }
-    if above(s, at + 1, n, last, len) {
-        return 0;
-    }
-    11
+    Ok(key)
 }

@@ -1,10 +1,10 @@
 // Row 14: the room that a job's sheet may want.
-ghost use Rattle.std.specs.Prelude.{◌≡◌, ℕ, ◌+◌, ◌*◌, ◌<◌, ◌≤◌, length};
-ghost use Rattle.discs.specs.Floor.{row_of};
+ghost use Rattle.std.specs.Prelude.{◌≡◌, ◌+◌, ◌≤◌, length};
+ghost use Rattle.laws.specs.Every.{Every};
 ghost use Rattle.job.specs.Job.{row_room, rows_room};
 ghost use Rattle.job.specs.Rows.{Fits};
 
-use discs::rows::{Row, get_row, is_left_in};
+use discs::rows::{Row, is_left_in};
 
 fn row_room(row: Row) -> usize
     requires { Fits row }
@@ -16,15 +16,13 @@ fn row_room(row: Row) -> usize
     0
 }
 
-pub fn sheet_room(rows: &[usize], n: usize) -> usize
-    requires { (n ≤ 64) × (n * 4 ≤ length rows.now) × ((z : ℕ) → z < n → Fits (row_of rows.now z)) }
-    ensures { result ≡ 15 + rows_room n rows.now }
+pub fn sheet_room(rows: &[Row]) -> usize
+    requires { (length rows.now ≤ 64) × Every Fits rows.now }
+    ensures { result ≡ 15 + rows_room rows.now }
 {
     let mut room = 15;
-    let mut z = 0;
-    while z < n {
-        room += row_room(get_row(rows, z));
-        z += 1;
+    for row in rows {
+        room += row_room(*row);
     }
     room
 }

@@ -1,16 +1,16 @@
 -- The packer about a deepest point by its parts, as the code calls them.
 -- Rests on the laws of `Spread.antt`.
-use Rattle.std.specs.Prelude.{◌≡◌, ℕ, zero, suc, ◌+◌, ◌-◌, ◌/◌, ◌<◌, min, Bool, true, false, cond, not, ◌&&◌, ◌||◌, List, [], ◌++◌, length, take, nat_le, refl, Float}
+use Rattle.std.specs.Prelude.{◌≡◌, ℕ, zero, suc, ◌+◌, ◌-◌, ◌/◌, ◌<◌, min, Bool, true, false, cond, not, ◌&&◌, ◌||◌, List, [], ◌++◌, length, take, nat_le, refl, Float, Some, None}
 use Rattle.std.proofs.Common.{sym, ap, ◌∙◌}
 use borrow.Author.Tests.{lt-ltb, le-ltb, lt-leb, leb-true, leb-false}
 use Rattle.std.proofs.Math.Seq.{take-nil}
 use Rattle.laws.specs.Sort.{sort_by}
-use Rattle.glyphs.specs.declared.bounds.Bounds.TheVariants.{Box, Nothing}
+use Rattle.glyphs.specs.declared.bounds.Extents.{Extents}
 use Rattle.glyphs.specs.declared.rect.Point.{Point}
 use Rattle.glyphs.specs.declared.rect.Rectangle.{Rectangle}
 use Rattle.glyphs.specs.Bounds.{ring_bounds}
 use Rattle.glyphs.specs.Rect.{rects_from, rectangles, obstacles_near}
-use Rattle.regions.specs.Ring.{Piece, outer, piece_of, part, first_ring}
+use Rattle.regions.specs.Ring.{Piece, outer}
 use Rattle.lattice.specs.Context.{inset, spacing}
 use Rattle.lattice.specs.Lattice.{no_cells, at, cells_within, lattice_valid_cells, take_cells, sort_by_anchor}
 use Rattle.lattice.specs.Spread.{with_spacing, field_spacing, field_take, field_pack, pack_is, trial_is}
@@ -57,44 +57,36 @@ pub length_rectangles : (l : List Float) → length (rectangles l) ≡ length l 
 unfolding rectangles
 length_rectangles l = length_rects l 0 (length l / 4)
 
--- ---- a piece
-pub outer_is : (sizes : List ℕ) (coords : List Float) (ring : List Float) → 0 < length sizes → ring ≡ part coords 0 (lib.ListN.get_or sizes 0 0) → outer (piece_of sizes coords) ≡ ring
-unfolding outer
-outer_is sizes coords ring h e = rw (first_ring sizes coords h, e)
-
 -- the lattice about a deepest point, given the obstacles near its piece
-abbrev pub field_at : Point → Piece → PackCtx → List Rectangle → Bool → Float → Float → Float → Float → Field
-field_at poi piece ctx near rectangular min-x max-x min-y max-y =
-    record {
-      anchor = anchor_of poi piece near (inset ctx);
-      lattice = record { spacing = spacing ctx; rectangular = rectangular };
-      min_x = min-x;
-      max_x = max-x;
-      min_y = min-y;
-      max_y = max-y;
-    }
+abbrev pub field_at : Point → Piece → PackCtx → List Rectangle → Bool → Extents → Field
+field_at poi piece ctx near rectangular extents =
+    record { anchor = anchor_of poi piece near (inset ctx); lattice = record { spacing = spacing ctx; rectangular = rectangular }; extents = extents }
+
+-- the obstacles near a piece of some extents
+abbrev pub near_of : PackCtx → List Rectangle → Extents → List Rectangle
+near_of ctx obstacles e = obstacles_near (Some e) obstacles (inset ctx)
 
 module _ (poi : Point) (piece : Piece) (n : ℕ) (ctx : PackCtx) (obstacles : List Rectangle) (rectangular : Bool) where
   -- ---- with bounds
-  module _ (min-x max-x min-y max-y : Float) (box : ring_bounds (outer piece) ≡ Box min-x max-x min-y max-y) where
-    abbrev pub near_of : List Rectangle
-    near_of = obstacles_near (Box min-x max-x min-y max-y) obstacles (inset ctx)
+  module _ (extents : Extents) (box : ring_bounds (outer piece) ≡ Some extents) where
+    abbrev local : List Rectangle
+    local = near_of ctx obstacles extents
 
     abbrev field_of : Field
-    field_of = field_at poi piece ctx near_of rectangular min-x max-x min-y max-y
+    field_of = field_at poi piece ctx local rectangular extents
 
-    around : pack_around poi piece n ctx obstacles rectangular ≡ pack_lattice piece n ctx rectangular near_of (anchor_of poi piece near_of (inset ctx))
+    around : pack_around poi piece n ctx obstacles rectangular ≡ pack_lattice piece n ctx rectangular local (anchor_of poi piece local (inset ctx))
     unfolding pack_around
     around = rw box
 
-    module _ (least : Float) (near : List Rectangle) (field : Field) (el : least ≡ inset ctx) (en : near ≡ near_of) (ef : field ≡ field_at poi piece ctx near rectangular min-x max-x min-y max-y) where
-      pub around_is : ctx.mode.spread ≡ true → field_pack piece least near n field ctx.mode.strict_obstacles ≡ pack_around poi piece n ctx obstacles rectangular
-      around_is e = rw (ef, el, en) (sym (around ∙ pack_is piece n ctx near_of field_of box refl e))
+    module _ (rings : Piece) (least : Float) (near : List Rectangle) (field : Field) (ep : rings ≡ piece) (el : least ≡ inset ctx) (en : near ≡ local) (ef : field ≡ field_at poi rings ctx near rectangular extents) where
+      pub around_is : ctx.mode.spread ≡ true → field_pack rings least near n field ctx.mode.strict_obstacles ≡ pack_around poi piece n ctx obstacles rectangular
+      around_is e = rw (ef, el, en, ep) (sym (around ∙ pack_is piece n ctx local field_of box refl e))
 
       pub probe_is :
           ctx.mode.spread ≡ false → ctx.mode.strict_obstacles ≡ true
-          → min n (length (cells_of field piece least near (at n)).free) ≡ length (pack_around poi piece n ctx obstacles rectangular)
-      probe_is e f = rw (ef, el, en) (sym (ap length around ∙ trial_is piece n ctx near_of field_of box refl e f))
+          → min n (length (cells_of field rings least near (at n)).free) ≡ length (pack_around poi piece n ctx obstacles rectangular)
+      probe_is e f = rw (ef, el, en, ep) (sym (ap length around ∙ trial_is piece n ctx local field_of box refl e f))
 
   -- ---- without bounds no spots
   take_none : (k : ℕ) (anchor : Point) (honoring b : Bool) → cond (honoring || b) (take n (sort_by_anchor anchor [])) (sort_by_anchor anchor [] ++ take k (sort_by_anchor anchor [])) ≡ []
@@ -112,7 +104,7 @@ module _ (poi : Point) (piece : Piece) (n : ℕ) (ctx : PackCtx) (obstacles : Li
   none_picked true false u v e f = refl
   none_picked false spread u v e f = f
 
-  pub no_spots : ring_bounds (outer piece) ≡ Nothing → 0 < n → pack_around poi piece n ctx obstacles rectangular ≡ []
+  pub no_spots : ring_bounds (outer piece) ≡ None → 0 < n → pack_around poi piece n ctx obstacles rectangular ≡ []
   unfolding pack_around pack_lattice lattice_valid_cells cells_within available
   no_spots box h =
       rw (box, lt-leb n 0 h, lt-ltb 0 n h)

@@ -8,7 +8,9 @@ use Rattle.std.proofs.Math.Nat.{add-sub_cancel_left}
 use Rattle.std.proofs.Math.Seq.{slice, take-suc-set, take-append_seam}
 use Rattle.float.specs.Ops.{◌+ᶠ◌, ◌-ᶠ◌, ◌*ᶠ◌, ◌/ᶠ◌, ◌<ᶠ◌, ◌>ᶠ◌, ε}
 use Rattle.glyphs.specs.Points.{Ring, vertices, x_at, y_at}
-use Rattle.regions.specs.Ring.{prev, outer, holes, part, rings_from, piece_of, rings_step, rings_end, first_ring}
+use Rattle.regions.specs.declared.piece.RegionPiece.{RegionPiece}
+use Rattle.regions.specs.Pieces.{rings_of}
+use Rattle.regions.specs.Ring.{prev, outer, holes, part, rings_from, first_ring}
 use Rattle.regions.specs.Inside.{intersect, flip, inside_after, point_in_polygon}
 use Rattle.regions.specs.Clearance.{in_any, within}
 
@@ -72,9 +74,9 @@ pub record Ends (rings : ℕ) (ends : List ℕ) : Type 0 where
   pub ascend : Ascend 0 (take rings ends)
 
 -- what is found of a height serves each point of it
-pub record Crossed (y : Float) (sizes : List ℕ) (coords crossings : List Float) (ends : List ℕ) : Type 0 where
-  pub ends_are : Ends (length sizes) ends
-  pub inside : (x : Float) → inside_level x (length sizes) crossings ends ≡ within x y (piece_of sizes coords)
+pub record Crossed (y : Float) (piece : RegionPiece) (crossings : List Float) (ends : List ℕ) : Type 0 where
+  pub ends_are : Ends (length piece.sizes.now) ends
+  pub inside : (x : Float) → inside_level x (length piece.sizes.now) crossings ends ≡ within x y (rings_of piece)
 
 -- ---- one ring
 
@@ -200,24 +202,32 @@ ends_ascend y (ring ∷ rings) from h =
     let n = length-append (crossings_of y ring) (crossings_of_all y rings) in
     (omega arith, ends_ascend y rings (from + length (crossings_of y ring)) (omega arith))
 
+-- a piece has as many rings as sizes
+pub length_rings : (a : ℕ) (sizes : List ℕ) (coords : List Float) → length (rings_from a sizes coords) ≡ length sizes
+unfolding rings_from
+length_rings a [] coords = refl
+length_rings a (n ∷ sizes) coords = ap suc (length_rings (a + n) sizes coords)
+
 -- what stands in the arrays after the last ring
 pub crossed :
-    (y : Float) (sizes : List ℕ) (coords crossings : List Float) (ends : List ℕ) (c : ℕ) → 0 < length sizes → length sizes ≤ 16 → length ends ≡ 16 → c ≤ 32
-    → crossings_of_all y (piece_of sizes coords) ≡ take c crossings → ends_of y 0 (piece_of sizes coords) ≡ take (length sizes) ends
-    → Crossed y sizes coords crossings ends
-crossed y sizes coords crossings ends c h few room le e f =
+    (y : Float) (piece : RegionPiece) (crossings : List Float) (ends : List ℕ) (c k : ℕ) → 0 < length piece.sizes.now → k ≤ 16 → length ends ≡ 16 → c ≤ 32
+    → k ≡ length piece.sizes.now → crossings_of_all y (rings_of piece) ≡ take c crossings → ends_of y 0 (rings_of piece) ≡ take k ends
+    → Crossed y piece crossings ends
+crossed y piece crossings ends c k h few room le z e f =
     let n = length-take c crossings in
-    let l : length (crossings_of_all y (piece_of sizes coords)) ≤ 32 = rw e (omega arith) in
+    let l : length (crossings_of_all y (rings_of piece)) ≤ 32 = rw e (omega arith) in
     record {
-      ends_are = record { some = h; few = few; room = room; ascend = rw (← f) (ends_ascend y (piece_of sizes coords) 0 (omega arith)) };
+      ends_are = record { some = h; few = omega arith; room = room; ascend = rw (← z, ← f) (ends_ascend y (rings_of piece) 0 (omega arith)) };
       inside = λ (x : Float). inside x;
     }
   where
-    inside : (x : Float) → inside_level x (length sizes) crossings ends ≡ within x y (piece_of sizes coords)
+    inside : (x : Float) → inside_level x (length piece.sizes.now) crossings ends ≡ within x y (rings_of piece)
     inside x =
+        let sizes = piece.sizes.now in
+        let coords = piece.coords.now in
         let p = first_ring sizes coords h in
         let e' = ap (crossings_of_all y) (sym p) ∙ e in
-        let f' = sym f ∙ ap (ends_of y 0) p in
+        let f' = ap (λ (i : ℕ). take i ends) (sym z) ∙ sym f ∙ ap (ends_of y 0) p in
         ap (λ (l : List Float). inside_level x (length sizes) l ends) (sym (take-append-drop c crossings) ∙ ap (λ (l : List Float). l ++ drop c crossings) (sym e'))
         ∙ piece_odd x y (part coords 0 (slice_index sizes 0)) (rings_from (slice_index sizes 0) (drop 1 sizes) coords) (drop c crossings) (length sizes) ends h f'
         ∙ ap (within x y) (sym p)
@@ -229,27 +239,24 @@ counted l m cs c r e h g =
     sym (length-take-le r m g) ∙ ap length e ∙ length-append (take c l) cs ∙ ap (λ (k : ℕ). k + length cs) (length-take-le c l h)
 
 -- a turn of the loop over the rings
-module _ (y : Float) (sizes : List ℕ) (coords : List Float) (at k : ℕ) (h : k < length sizes) where
+module _ (y : Float) (ring : Ring) (rings : List Ring) where
   pub rings_next :
-      (all before after : List Float) → all ≡ before ++ crossings_of_all y (rings_from at (drop k sizes) coords)
-      → after ≡ before ++ crossings_of y (part coords at (slice_index sizes k))
-      → all ≡ after ++ crossings_of_all y (rings_from (at + slice_index sizes k) (drop (k + 1) sizes) coords)
+      (all before after : List Float) → all ≡ before ++ crossings_of_all y (ring ∷ rings) → after ≡ before ++ crossings_of y ring
+      → all ≡ after ++ crossings_of_all y rings
   unfolding crossings_of_all
-  rings_next all before after e f =
-      e ∙ rw (rings_step at sizes coords k h, f) (sym (append_assoc before _ _))
+  rings_next all before after e f = e ∙ rw f (sym (append_assoc before _ _))
 
   pub ends_next :
-      (all ends : List ℕ) (c e : ℕ) → k < length ends → all ≡ take k ends ++ ends_of y c (rings_from at (drop k sizes) coords)
-      → e ≡ c + length (crossings_of y (part coords at (slice_index sizes k)))
-      → all ≡ take (k + 1) (slice_set ends k e) ++ ends_of y e (rings_from (at + slice_index sizes k) (drop (k + 1) sizes) coords)
+      (all ends : List ℕ) (c e k : ℕ) → k < length ends → all ≡ take k ends ++ ends_of y c (ring ∷ rings) → e ≡ c + length (crossings_of y ring)
+      → all ≡ take (k + 1) (slice_set ends k e) ++ ends_of y e rings
   unfolding ends_of
-  ends_next all ends c e l f g =
-      f ∙ rw (rings_step at sizes coords k h, ← g) (rw (add-one, take-suc-set ends k e l) (sym (append_assoc (take k ends) (e ∷ []) _)))
+  ends_next all ends c e k l f g = f ∙ rw (← g) (rw (add-one, take-suc-set ends k e l) (sym (append_assoc (take k ends) (e ∷ []) _)))
 
-pub rings_done : (y : Float) (sizes : List ℕ) (coords : List Float) (at k : ℕ) (l : List Float) → length sizes ≤ k → l ++ crossings_of_all y (rings_from at (drop k sizes) coords) ≡ l
+-- after the last
+pub rings_done : (y : Float) (rings : List Ring) (l : List Float) → rings ≡ [] → l ++ crossings_of_all y rings ≡ l
 unfolding crossings_of_all
-rings_done y sizes coords at k l h = rw (rings_end at sizes coords k h) (append-nil l)
+rings_done y rings l h = rw h (append-nil l)
 
-pub ends_done : (y : Float) (c : ℕ) (sizes : List ℕ) (coords : List Float) (at k : ℕ) (l : List ℕ) → length sizes ≤ k → l ++ ends_of y c (rings_from at (drop k sizes) coords) ≡ l
+pub ends_done : (y : Float) (c : ℕ) (rings : List Ring) (l : List ℕ) → rings ≡ [] → l ++ ends_of y c rings ≡ l
 unfolding ends_of
-ends_done y c sizes coords at k l h = rw (rings_end at sizes coords k h) (append-nil l)
+ends_done y c rings l h = rw h (append-nil l)

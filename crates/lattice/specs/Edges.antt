@@ -1,10 +1,10 @@
--- The edges near a height, written to an array four floats each: a place of that height keeps a clearance from the piece where it keeps it from them.
+-- The edges near a height, written to an array: a place of that height keeps a clearance from the piece where it keeps it from them.
 -- Rests on the law of far edges, and on the least of distances being at least c where each of them is.
-use Rattle.std.specs.Prelude.{◌≡◌, ℕ, zero, suc, ◌+◌, ◌-◌, ◌*◌, ◌<◌, ◌≤◌, Bool, true, false, cond, not, ◌&&◌, T, List, [], ◌∷◌, map, length, nat_lt, slice_index_or, refl, Float}
+use Rattle.std.specs.Prelude.{◌≡◌, ℕ, zero, suc, ◌+◌, ◌<◌, ◌≤◌, Bool, true, false, cond, not, ◌&&◌, T, List, [], ◌∷◌, length, nat_lt, take, set, refl, Float}
 use Rattle.std.proofs.Math.Path.{sym}
-use Rattle.std.proofs.Common.{ap, ◌∙◌, add-one, T_not}
+use Rattle.std.proofs.Common.{ap, ◌∙◌, add-one, T_not, take-suc-set}
 use Rattle.std.proofs.Math.Bool.{and-true, and_assoc}
-use mathlib.Core.List.{map-append, foldl}
+use mathlib.Core.List.{foldl}
 use borrow.Author.Tests.{lt-ltb, le-ltb}
 use Rattle.std.proofs.Math.Dec.{not_T}
 use Rattle.std.specs.Float.{nan, inf, fin, binary64}
@@ -20,56 +20,28 @@ use Rattle.float.specs.Laws.Zero.{origin, origin_is}
 use Rattle.float.specs.Laws.Compare.{le_trans, lt_le, lt_not_le, not_lt_le, lt_le_trans, le_lt_trans}
 use Rattle.float.specs.Laws.Square.{Square, times_self, plus}
 use Rattle.float.specs.Laws.Monotone.{root_of_mono}
-use Rattle.glyphs.specs.declared.rect.Rectangle.{Rectangle}
 use Rattle.glyphs.specs.Points.{Ring, vertices, x_at, y_at}
-use Rattle.glyphs.specs.Rect.{rect_at, rects_from, rects_step, rects_end}
 use Rattle.regions.specs.Ring.{Piece, next}
 use Rattle.regions.specs.Clearance.{edge_square, dist_at, closer, best_after, best_of_ring, min_dist_to_rings}
 use Rattle.regions.specs.Margin.{low_square, high_square, high_square_lem}
-use Rattle.lattice.specs.Near.{put_rect, rects_put}
+use Rattle.lattice.specs.declared.edges.Edge.{Edge}
 use Rattle.lattice.specs.Far.{Sure, Beyond, far_edge}
-
--- the edge from (ax, ay) to (bx, by)
-pub record Edge : Type 0 where
-  pub ax : Float
-  pub ay : Float
-  pub bx : Float
-  pub by : Float
-
-abbrev pub edge : Float → Float → Float → Float → Edge
-edge ax ay bx by = record { ax = ax; ay = ay; bx = bx; by = by }
-
--- four floats are read and written as an obstacle's are
-abbrev from_four : Rectangle → Edge
-from_four four = edge four.center.x four.center.y four.width four.height
-
-abbrev to_four : Edge → Rectangle
-to_four e = record { center = record { x = e.ax; y = e.ay }; width = e.bx; height = e.by }
-
-abbrev pub put_edge : List Float → ℕ → Edge → List Float
-put_edge l m e = put_rect l m (to_four e)
-
--- n edges, from the k-th on, and the first m
-unfoldable pub edges_from : List Float → ℕ → ℕ → List Edge
-edges_from l k n = map from_four (rects_from l k n)
-
-unfoldable pub edges_in : List Float → ℕ → List Edge
-edges_in l m = edges_from l 0 m
 
 -- the distance to an edge is not below c
 unfoldable pub keeps : Float → Float → Float → Edge → Bool
-keeps x y c e = not (sqrt (edge_square x y e.ax e.ay e.bx e.by) <ᶠ c)
+keeps x y c e = not (sqrt (edge_square x y e.from.x e.from.y e.to.x e.to.y) <ᶠ c)
 
 unfoldable pub keeps_edges : Float → Float → Float → List Edge → Bool
 keeps_edges x y c edges = all (keeps x y c) edges
 
--- a place of the height y has the clearance c where the first m edges say so
-abbrev pub NearEdges : Float → Float → Piece → ℕ → List Float → Type 0
-NearEdges y c piece m l = (x : Float) → keeps_edges x y c (edges_in l m) ≡ (c ≤ᶠ min_dist_to_rings x y piece)
+-- a place of the height y has the clearance c where these edges say so
+abbrev pub NearEdges : Float → Float → Piece → List Edge → Type 0
+NearEdges y c piece edges = (x : Float) → keeps_edges x y c edges ≡ (c ≤ᶠ min_dist_to_rings x y piece)
 
 -- ---- a ring's edges
-abbrev edge_at : Ring → ℕ → ℕ → Edge
-edge_at ring n i = edge (x_at ring i) (y_at ring i) (x_at ring (next n i)) (y_at ring (next n i))
+abbrev pub edge_at : Ring → ℕ → ℕ → Edge
+edge_at ring n i =
+    record { from = record { x = x_at ring i; y = y_at ring i }; to = record { x = x_at ring (next n i); y = y_at ring (next n i) } }
 
 unfoldable pub keeps_after : Float → Float → Float → Ring → ℕ → ℕ → Bool
 keeps_after x y c ring n zero = true
@@ -79,53 +51,47 @@ unfoldable pub keeps_ring : Float → Float → Float → Ring → Bool
 keeps_ring x y c ring = cond (nat_lt (vertices ring) 2) true (keeps_after x y c ring (vertices ring) (vertices ring))
 
 -- ---- l with m edges has become r with n, which say what those and one more say, or those and a ring's
-abbrev pub Added : Float → Float → Edge → ℕ → List Float → ℕ → List Float → Type 0
+abbrev pub Added : Float → Float → Edge → ℕ → List Edge → ℕ → List Edge → Type 0
 Added y reach e m l n r =
-    (c x : Float) → Sure c y reach → keeps_edges x y c (edges_in r n) ≡ (keeps_edges x y c (edges_in l m) && keeps x y c e)
+    (c x : Float) → Sure c y reach → keeps_edges x y c (take n r) ≡ (keeps_edges x y c (take m l) && keeps x y c e)
 
-abbrev pub AddedRing : Float → Float → Ring → ℕ → List Float → ℕ → List Float → Type 0
+abbrev pub AddedRing : Float → Float → Ring → ℕ → List Edge → ℕ → List Edge → Type 0
 AddedRing y reach ring m l n r =
-    (c x : Float) → Sure c y reach → keeps_edges x y c (edges_in r n) ≡ (keeps_edges x y c (edges_in l m) && keeps_ring x y c ring)
+    (c x : Float) → Sure c y reach → keeps_edges x y c (take n r) ≡ (keeps_edges x y c (take m l) && keeps_ring x y c ring)
 
 -- ---- one edge more
-pub far_added : (y reach : Float) (e : Edge) (m : ℕ) (l : List Float) → Beyond y reach e.ay e.by → Added y reach e m l m l
+pub far_added : (y reach : Float) (e : Edge) (m : ℕ) (l : List Edge) → Beyond y reach e.from.y e.to.y → Added y reach e m l m l
 unfolding keeps
-far_added y reach e m l b c x s = rw (far_edge c x y e.ax e.ay e.bx e.by reach s b) (sym (and-true (keeps_edges x y c (edges_in l m))))
+far_added y reach e m l b c x s = rw (far_edge c x y e.from.x e.from.y e.to.x e.to.y reach s b) (sym (and-true (keeps_edges x y c (take m l))))
 
-pub near_added : (y reach : Float) (e : Edge) (m : ℕ) (l : List Float) → m * 4 + 3 < length l → Added y reach e m l (m + 1) (put_edge l m e)
-unfolding keeps_edges edges_in edges_from
-near_added y reach e m l h c x s =
-    rw (rects_put l m (to_four e) h, map-append from_four (rects_from l 0 m) (to_four e ∷ [])) (all_last (keeps x y c) (map from_four (rects_from l 0 m)) e)
+pub near_added : (y reach : Float) (e : Edge) (m : ℕ) (l : List Edge) → m < length l → Added y reach e m l (m + 1) (set l m e)
+unfolding keeps_edges
+near_added y reach e m l h c x s = rw (add-one, take-suc-set l m e h) (all_last (keeps x y c) (take m l) e)
 
 -- ---- a ring's edges in turn
 module _ (y reach : Float) (ring : Ring) where
   -- the first i edges of the ring are added
-  abbrev pub AddedAfter : ℕ → ℕ → ℕ → List Float → ℕ → List Float → Type 0
+  abbrev pub AddedAfter : ℕ → ℕ → ℕ → List Edge → ℕ → List Edge → Type 0
   AddedAfter n i m l m' l' =
-      (c x : Float) → Sure c y reach → keeps_edges x y c (edges_in l' m') ≡ (keeps_edges x y c (edges_in l m) && keeps_after x y c ring n i)
+      (c x : Float) → Sure c y reach → keeps_edges x y c (take m' l') ≡ (keeps_edges x y c (take m l) && keeps_after x y c ring n i)
 
-  pub after_none : (n m : ℕ) (l : List Float) → AddedAfter n 0 m l m l
+  pub after_none : (n m : ℕ) (l : List Edge) → AddedAfter n 0 m l m l
   unfolding keeps_after
-  after_none n m l c x s = sym (and-true (keeps_edges x y c (edges_in l m)))
+  after_none n m l c x s = sym (and-true (keeps_edges x y c (take m l)))
 
-  -- one more, as the code reads it
-  module _ (n i k : ℕ) (ax ay bx by : Float) (p : k ≡ next n i) (px : ax ≡ x_at ring i) (py : ay ≡ y_at ring i) (qx : bx ≡ x_at ring k) (qy : by ≡ y_at ring k) where
-    edge_read : edge ax ay bx by ≡ edge_at ring n i
-    edge_read = rw (px, py, qx, qy, p)
+  pub after_next :
+      (n i m : ℕ) (l : List Edge) (m' : ℕ) (l' : List Edge) (m'' : ℕ) (l'' : List Edge) → AddedAfter n i m l m' l' → Added y reach (edge_at ring n i) m' l' m'' l''
+      → AddedAfter n (i + 1) m l m'' l''
+  unfolding keeps_after
+  after_next n i m l m' l' m'' l'' f g c x s =
+      rw (add-one i, g c x s, f c x s) (and_assoc (keeps_edges x y c (take m l)) (keeps_after x y c ring n i) (keeps x y c (edge_at ring n i)))
 
-    pub after_next :
-        (m : ℕ) (l : List Float) (m' : ℕ) (l' : List Float) (m'' : ℕ) (l'' : List Float) → AddedAfter n i m l m' l' → Added y reach (edge ax ay bx by) m' l' m'' l''
-        → AddedAfter n (i + 1) m l m'' l''
-    unfolding keeps_after
-    after_next m l m' l' m'' l'' f g c x s =
-        rw (add-one i, ← edge_read, g c x s, f c x s) (and_assoc (keeps_edges x y c (edges_in l m)) (keeps_after x y c ring n i) (keeps x y c (edge ax ay bx by)))
-
-  pub ring_short : (m : ℕ) (l : List Float) → vertices ring < 2 → AddedRing y reach ring m l m l
+  pub ring_short : (m : ℕ) (l : List Edge) → vertices ring < 2 → AddedRing y reach ring m l m l
   unfolding keeps_ring
-  ring_short m l h c x s = rw (lt-ltb (vertices ring) 2 h) (sym (and-true (keeps_edges x y c (edges_in l m))))
+  ring_short m l h c x s = rw (lt-ltb (vertices ring) 2 h) (sym (and-true (keeps_edges x y c (take m l))))
 
   pub ring_added :
-      (n i m : ℕ) (l : List Float) (m' : ℕ) (l' : List Float) → n ≡ vertices ring → 2 ≤ n → i ≡ n → AddedAfter n i m l m' l' → AddedRing y reach ring m l m' l'
+      (n i m : ℕ) (l : List Edge) (m' : ℕ) (l' : List Edge) → n ≡ vertices ring → 2 ≤ n → i ≡ n → AddedAfter n i m l m' l' → AddedRing y reach ring m l m' l'
   unfolding keeps_ring
   ring_added n i m l m' l' e h f p c x s = rw (← e, le-ltb n 2 h) (p c x s ∙ rw f)
 
@@ -184,22 +150,22 @@ under_infinity (fin s m e) k = refl
 
 -- ---- the rings in turn: l has m edges of the piece, and these rings are left
 module _ (y reach : Float) (piece : Piece) where
-  unfoldable pub Left : List Ring → ℕ → List Float → Type 0
-  Left rings m l = (c x : Float) → Number c → Sure c y reach → (keeps_edges x y c (edges_in l m) && keeps_rings x y c rings) ≡ (c ≤ᶠ min_dist_to_rings x y piece)
+  unfoldable pub Left : List Ring → ℕ → List Edge → Type 0
+  Left rings m l = (c x : Float) → Number c → Sure c y reach → (keeps_edges x y c (take m l) && keeps_rings x y c rings) ≡ (c ≤ᶠ min_dist_to_rings x y piece)
 
-  pub left_all : (l : List Float) → Left piece 0 l
-  unfolding Left keeps_edges edges_in edges_from rects_from min_dist_to_rings all
+  pub left_all : (l : List Edge) → Left piece 0 l
+  unfolding Left keeps_edges min_dist_to_rings all
   left_all l c x k s = sym (rings_at_least x y c ∞ piece k ∙ rw (under_infinity c k))
 
   pub left_next :
-      (ring : Ring) (rings : List Ring) (m : ℕ) (l : List Float) (m' : ℕ) (l' : List Float) → Left (ring ∷ rings) m l → AddedRing y reach ring m l m' l' → Left rings m' l'
+      (ring : Ring) (rings : List Ring) (m : ℕ) (l : List Edge) (m' : ℕ) (l' : List Edge) → Left (ring ∷ rings) m l → AddedRing y reach ring m l m' l' → Left rings m' l'
   unfolding Left all
   left_next ring rings m l m' l' f g c x k s =
-      rw (g c x s) (and_assoc (keeps_edges x y c (edges_in l m)) (keeps_ring x y c ring) (all (keeps_ring x y c) rings) ∙ f c x k s)
+      rw (g c x s) (and_assoc (keeps_edges x y c (take m l)) (keeps_ring x y c ring) (all (keeps_ring x y c) rings) ∙ f c x k s)
 
-  pub left_none : (c : Float) (m : ℕ) (l : List Float) → Number c → Sure c y reach → Left [] m l → NearEdges y c piece m l
+  pub left_none : (c : Float) (m : ℕ) (l : List Edge) → Number c → Sure c y reach → Left [] m l → NearEdges y c piece (take m l)
   unfolding Left all
-  left_none c m l k s f x = sym (and-true (keeps_edges x y c (edges_in l m))) ∙ f c x k s
+  left_none c m l k s f x = sym (and-true (keeps_edges x y c (take m l))) ∙ f c x k s
 
 -- ---- the code's test of one edge, by its square
 low_square_lem : (c z : Float) → Square z → T (z <ᶠ low_square c) → T (sqrt z <ᶠ c)
@@ -215,7 +181,7 @@ low_square_lem c z s h =
     go v true e l = le_lt_trans (sqrt z) (sqrt v) c (root_of_mono binary64 z v (least v l) (lt_le z v l)) (yes e)
     go v false e l = absurd (lt_not_le z 0ᶠ l (rw origin_is (least 0ᶠ l)))
 
-module _ (x y c z : Float) (e : Edge) (f : z ≡ edge_square x y e.ax e.ay e.bx e.by) where
+module _ (x y c z : Float) (e : Edge) (f : z ≡ edge_square x y e.from.x e.from.y e.to.x e.to.y) where
   pub keeps_is : keeps x y c e ≡ not (sqrt z <ᶠ c)
   unfolding keeps
   keeps_is = rw f
@@ -229,25 +195,3 @@ module _ (x y c z : Float) (e : Edge) (f : z ≡ edge_square x y e.ax e.ay e.bx 
 
   pub keeps_low : T (z <ᶠ low_square c) → keeps x y c e ≡ false
   keeps_low h = keeps_is ∙ ap not (is_true (sqrt z <ᶠ c) (low_square_lem c z edge_square_lem h))
-
--- ---- the edges in turn
-module _ (x y c : Float) (l : List Float) (k m : ℕ) where
-  abbrev pub edge_of : Edge
-  edge_of = edge (slice_index_or l (k * 4) nan) (slice_index_or l (k * 4 + 1) nan) (slice_index_or l (k * 4 + 2) nan) (slice_index_or l (k * 4 + 3) nan)
-
-  abbrev pub keeps_from : ℕ → Bool
-  keeps_from i = keeps_edges x y c (edges_from l i (m - i))
-
-  edges_step : k < m → keeps_from k ≡ keeps x y c edge_of && keeps_from (k + 1)
-  unfolding keeps_edges edges_from all rect_at
-  edges_step h = rw (rects_step l k m h)
-
-  pub edges_next : (b : Bool) → k < m → b ≡ keeps x y c edge_of → b ≡ true → keeps_from k ≡ keeps_from (k + 1)
-  edges_next b h e f = edges_step h ∙ rw (← e, f)
-
-  pub edges_stop : (b : Bool) → k < m → b ≡ keeps x y c edge_of → b ≡ false → keeps_from k ≡ false
-  edges_stop b h e f = edges_step h ∙ rw (← e, f)
-
-  pub edges_done : m ≤ k → keeps_from k ≡ true
-  unfolding keeps_edges edges_from all
-  edges_done h = rw (rects_end l k m h)

@@ -1,5 +1,5 @@
 -- discs.rs, `escape_obstacles`: a blocked anchor moved to the nearest of the obstacles' exits. Definitions only.
-use Rattle.std.specs.Prelude.{Bool, true, cond, not, ◌||◌, List, [], ◌∷◌, Float}
+use Rattle.std.specs.Prelude.{Bool, true, cond, not, ◌||◌, List, [], ◌∷◌, Option, None, Some, Float}
 use mathlib.Core.List.{foldl}
 use Rattle.laws.specs.Orders.{◌then_by◌, is_lt}
 use Rattle.float.specs.Ops.{◌+ᶠ◌, ◌-ᶠ◌, ◌*ᶠ◌, ◌<ᶠ◌, 1ᶠ, ½ᶠ, literal}
@@ -9,8 +9,7 @@ use Rattle.glyphs.specs.declared.rect.Rectangle.{Rectangle}
 use Rattle.glyphs.specs.Rect.{clear_of_obstacles}
 use Rattle.regions.specs.Ring.{Piece}
 use Rattle.regions.specs.Clearance.{signed_clearance}
-use Rattle.lattice.specs.declared.escape.Best.{Best}
-use Rattle.lattice.specs.declared.escape.Best.TheVariants.{Nothing, Found}
+use Rattle.lattice.specs.declared.escape.Exit.{Exit}
 
 -- (x, y)
 abbrev pub point : Float → Float → Point
@@ -24,10 +23,10 @@ squared_distance a b = (a.x -ᶠ b.x) *ᶠ (a.x -ᶠ b.x) +ᶠ (a.y -ᶠ b.y) *�
 abbrev pub 1e-9ᶠ : Float
 1e-9ᶠ = literal 0x3e11_2e0b_e826_d695
 
--- `best`, nothing or the squared distance and the candidate: nearer to the anchor, then of smaller x, then of smaller y
-abbrev pub better : Best → Float → Point → Bool
-better Nothing d p = true
-better (Found best-d best-p) d p = is_lt (total_cmp d best-d then_by total_cmp p.x best-p.x then_by total_cmp p.y best-p.y)
+-- `best`, none or the squared distance and the candidate: nearer to the anchor, then of smaller x, then of smaller y
+abbrev pub better : Option Exit → Exit → Bool
+better None e = true
+better (Some best) e = is_lt (total_cmp e.square best.square then_by total_cmp e.place.x best.place.x then_by total_cmp e.place.y best.place.y)
 
 -- the axis exits of an obstacle, a hair past its clearance ring
 unfoldable pub exits : Point → Float → Rectangle → List Point
@@ -38,22 +37,22 @@ exits anchor pad rect =
     let cy = rect.center.y in
     point (cx -ᶠ half-w) anchor.y ∷ point (cx +ᶠ half-w) anchor.y ∷ point anchor.x (cy -ᶠ half-h) ∷ point anchor.x (cy +ᶠ half-h) ∷ []
 
-unfoldable pub consider : Point → Piece → List Rectangle → Float → Best → Point → Best
+unfoldable pub consider : Point → Piece → List Rectangle → Float → Option Exit → Point → Option Exit
 consider anchor piece obstacles clearance best p =
-    let d = squared_distance p anchor in
+    let exit : Exit = record { square = squared_distance p anchor; place = p } in
     cond (not (clear_of_obstacles p.x p.y obstacles clearance) || signed_clearance p.x p.y piece <ᶠ clearance) best
-    (cond (better best d p) (Found d p) best)
+    (cond (better best exit) (Some exit) best)
 
 -- best.map_or(anchor, |(_, p)| p)
-abbrev pub or_anchor : Point → Best → Point
-or_anchor anchor Nothing = anchor
-or_anchor anchor (Found d p) = p
+abbrev pub or_anchor : Point → Option Exit → Point
+or_anchor anchor None = anchor
+or_anchor anchor (Some exit) = exit.place
 
 -- the best of all obstacles' exits
-unfoldable pub best_exit : Point → Piece → List Rectangle → Float → Best
+unfoldable pub best_exit : Point → Piece → List Rectangle → Float → Option Exit
 best_exit anchor piece obstacles clearance =
     let pad = clearance *ᶠ (1ᶠ +ᶠ 1e-9ᶠ) in
-    foldl (λ (best : Best) (rect : Rectangle). foldl (consider anchor piece obstacles clearance) best (exits anchor pad rect)) Nothing obstacles
+    foldl (λ (best : Option Exit) (rect : Rectangle). foldl (consider anchor piece obstacles clearance) best (exits anchor pad rect)) None obstacles
 
 unfoldable pub escape_obstacles : Point → Piece → List Rectangle → Float → Point
 escape_obstacles anchor piece obstacles clearance =

@@ -7,19 +7,20 @@ use mathlib.Core.List.{foldl, foldl-append}
 use Rattle.laws.specs.Bounded.{insert_behind, length_behind, take_ascending, behind_ascending, first_next}
 use Rattle.laws.specs.Sorted.{Ascending}
 use Rattle.laws.specs.Sort.{sort_by}
-use Rattle.float.specs.Ops.{◌≤ᶠ◌, ◌≥ᶠ◌, 0ᶠ}
+use Rattle.float.specs.Ops.{◌≥ᶠ◌}
 use Rattle.glyphs.specs.declared.rect.Point.{Point}
 use Rattle.glyphs.specs.declared.rect.Rectangle.{Rectangle}
-use Rattle.glyphs.specs.Rect.{clear_of_obstacles, is_finite}
+use Rattle.glyphs.specs.Rect.{clear_of_obstacles}
 use Rattle.regions.specs.Ring.{Piece}
 use Rattle.regions.specs.Clearance.{signed_clearance}
 use Rattle.lattice.specs.Escape.{point}
 use Rattle.lattice.specs.Keys.{linear_by}
-use Rattle.lattice.specs.Lattice.{HexCells, no_cells, never, judge, by_anchor, sort_by_anchor, hex_enum_cap, row_height, all_cells, cells_within}
-use Rattle.lattice.specs.Rows.{row_of, width, cell_x, cells_from, visit, first_row, last_row, no_cells_lem, cells_step, cells_end, rows_step, last_row_lem, no_cells_left, no_rows, visited}
-use Rattle.lattice.specs.Tally.{cells_of}
+use Rattle.lattice.specs.Lattice.{HexCells, no_cells, never, judge, by_anchor, sort_by_anchor}
+use Rattle.lattice.specs.Rows.{cell_x, cells_from, cells_step, cells_start, cells_end, no_cells_lem, joined, walk}
+use Rattle.lattice.specs.Tally.{cells_of, cells_judged}
+use Rattle.lattice.specs.Walk.{cells_in}
 use Rattle.lattice.specs.declared.rows.Field.{Field}
-use Rattle.lattice.specs.declared.rows.Row.{Row}
+use Rattle.lattice.specs.declared.row.Row.{Row}
 
 -- the nearest of each kind
 abbrev pub kept : Point → ℕ → ℕ → HexCells → HexCells
@@ -113,29 +114,27 @@ module _ (piece : Piece) (min-clearance : Float) (near : List Rectangle) (anchor
       (j.0, (omega (arith, i.1.0, j.1.0), omega (arith, i.1.1, j.1.1)))
 
   -- ---- turns of the loops
-  pub row_turn : (cells : HexCells) (row : Row) (s : Float) (k m : ℕ) → k < m → gather cells (cells_from row s k (m - k)) ≡ gather (gather_cell cells (point (cell_x row s k) row.y)) (cells_from row s (k + 1) (m - (k + 1)))
-  row_turn cells row s k m h = rw (cells_step row s k m h)
+  module _ (cells : HexCells) (row : Row) where
+    -- what is gathered from the cell k on
+    abbrev pub gather_from : ℕ → HexCells
+    gather_from k = gather cells (cells_from row.x row.y row.spacing (row.first + k) (row.count - k))
 
-  pub row_done : (cells : HexCells) (row : Row) (s : Float) (k m : ℕ) → m ≤ k → gather cells (cells_from row s k (m - k)) ≡ cells
-  row_done cells row s k m h = rw (cells_end row s k m h)
+    pub row_start : gather cells (cells_in row) ≡ gather_from 0
+    row_start = ap (gather cells) (cells_start row.x row.y row.spacing row.first row.count)
 
-  pub row_none : (cells : HexCells) (row : Row) (s : Float) (m : ℕ) → m ≡ 0 → gather cells (cells_from row s 0 m) ≡ cells
-  row_none cells row s m z = rw (z, no_cells_lem)
+    pub row_turn :
+        (k : ℕ) → k < row.count → (p : Point) → p ≡ point (cell_x row.x row.spacing (row.first + k)) row.y
+        → gather_from k ≡ gather (gather_cell cells p) (cells_from row.x row.y row.spacing (row.first + (k + 1)) (row.count - (k + 1)))
+    row_turn k h p e = rw (cells_step row.x row.y row.spacing row.first k row.count h, ← e)
 
-  module _ (cells : HexCells) (field : Field) (row-h : Float) (u last left : ℕ) (h : u ≤ last) (row : Row) (e : row ≡ row_of field row-h u) (m : ℕ) (em : m ≡ min (width row) left) where
-    pub rows_turn : gather cells (visit left field row-h u last) ≡ gather (gather cells (cells_from row field.lattice.spacing 0 m)) (visit (left - m) field row-h (u + 1) last)
-    rows_turn =
-        rw (em, e) (ap (gather cells) (rows_step field row-h u last left h)
-        ∙ foldl-append gather_cell cells (cells_from (row_of field row-h u) field.lattice.spacing 0 (min (width (row_of field row-h u)) left)) _)
+    pub row_done : (k : ℕ) → row.count ≤ k → gather_from k ≡ cells
+    row_done k h = rw (cells_end row.x row.y row.spacing row.first k row.count h)
 
-    pub rows_filled : left - m ≡ 0 → gather cells (visit left field row-h u last) ≡ gather cells (cells_from row field.lattice.spacing 0 m)
-    rows_filled z = rows_turn ∙ rw (z, no_cells_left)
+    pub row_none : row.count ≡ 0 → gather cells (cells_in row) ≡ cells
+    row_none z = rw (no_cells_lem row.x row.y row.spacing row.first row.count z)
 
-    pub rows_done : u ≡ last → gather cells (visit left field row-h u last) ≡ gather cells (cells_from row field.lattice.spacing 0 m)
-    rows_done z = rw (last_row_lem field row-h u last left z, em, e)
-
-  pub gather_no_rows : (cells : HexCells) (left : ℕ) (field : Field) (row-h : Float) (u last : ℕ) → last < u → gather cells (visit left field row-h u last) ≡ cells
-  gather_no_rows cells left field row-h u last h = rw (no_rows left field row-h u last h)
+    pub rows_turn : (rows : List (List Point)) → gather cells (joined (cells_in row ∷ rows)) ≡ gather (gather cells (cells_in row)) (joined rows)
+    rows_turn rows = foldl-append gather_cell cells (cells_in row) (joined rows)
 
   take_none : (n : ℕ) → take n (sort_by_anchor anchor []) ≡ []
   unfolding sort_by_anchor sort_by
@@ -145,13 +144,8 @@ module _ (piece : Piece) (min-clearance : Float) (near : List Rectangle) (anchor
   pub kept_none : kept anchor nf nb no_cells ≡ no_cells
   kept_none = rw (take_none nf, take_none nb)
 
-  pub cells_gathered :
-      (field : Field) → field.lattice.spacing ≤ᶠ 0ᶠ ≡ false → is_finite field.lattice.spacing ≡ true
-      → let row-h = row_height field.lattice in
-      kept anchor nf nb (cells_of field piece min-clearance near never) ≡ gather no_cells (visit hex_enum_cap field row-h (first_row field row-h) (last_row field row-h))
-  unfolding cells_within
-  cells_gathered field e f =
-      rw (e, f)
-      (kept_judged no_cells (take hex_enum_cap (all_cells field.lattice field.anchor field.min_x field.max_x field.min_y field.max_y))
-      ∙ ap (λ (cells : HexCells). gather cells (take hex_enum_cap (all_cells field.lattice field.anchor field.min_x field.max_x field.min_y field.max_y))) kept_none
-      ∙ ap (gather no_cells) (visited field hex_enum_cap))
+  pub cells_gathered : (field : Field) → kept anchor nf nb (cells_of field piece min-clearance near never) ≡ gather no_cells (walk field)
+  cells_gathered field =
+      ap (kept anchor nf nb) (cells_judged piece min-clearance near field never)
+      ∙ kept_judged no_cells (walk field)
+      ∙ ap (λ (cells : HexCells). gather cells (walk field)) kept_none

@@ -22,6 +22,8 @@ use Rattle.lattice.specs.Merge.{inserted_none}
 use Rattle.lattice.specs.Waiting.{Line, Onward, lined, length_lined, lined_order}
 use Rattle.lattice.specs.declared.count.Counts.{Counts}
 use Rattle.lattice.specs.declared.gather.Gathered.{Gathered}
+use Rattle.lattice.specs.declared.gather.Gathering.{Gathering}
+use Rattle.lattice.specs.declared.gather.Wanted.{Wanted}
 use Rattle.lattice.specs.declared.waiting.Free.{Free}
 
 -- the numbers of cells in the two slices
@@ -43,6 +45,25 @@ pub record Gathers (anchor : Point) (nf nb : ℕ) (cells : HexCells) (t r : Gath
   pub cells_are : gathered_in anchor nf r free blocked run ≡ cells
   pub holds : Holds (held_in (kept_of r) free blocked) (kept_of r) free blocked free₀ blocked₀
   pub grown : Grown (held_in (kept_of t) free₀ blocked₀) (held_in (kept_of r) free blocked)
+
+-- ---- the same of a gathering
+abbrev pub held_by : Gathering → HexCells
+held_by g = held_in (kept_of g.t) g.free.now g.blocked.now
+
+abbrev pub gathered_by : Wanted → Gathering → HexCells
+gathered_by w g = gathered_in w.anchor w.free g.t g.free.now g.blocked.now g.run
+
+abbrev pub IsReady : Wanted → Gathering → Type 0
+IsReady w g = Ready w.anchor w.free w.blocked (kept_of g.t) g.free.now g.blocked.now
+
+abbrev pub IsWaiting : Wanted → Gathering → Type 0
+IsWaiting w g = Waits w.anchor w.free w.blocked g.t g.free.now g.blocked.now g.run
+
+abbrev pub HoldsNow : HexCells → Gathering → Gathering → Type 0
+HoldsNow cells g₀ g = Holds cells (kept_of g.t) g.free.now g.blocked.now g₀.free.now g₀.blocked.now
+
+abbrev pub GathersNow : Wanted → HexCells → Gathering → Gathering → Type 0
+GathersNow w cells g₀ g = Gathers w.anchor w.free w.blocked cells g₀.t g.t g.free.now g.blocked.now g.run g₀.free.now g₀.blocked.now
 
 -- ---- before a row
 module _ (anchor : Point) (nf nb : ℕ) (t : Counts) (f b g : List Float) (r : Ready anchor nf nb t f b) where

@@ -1,5 +1,5 @@
 -- discs.rs, `lattice_valid_cells`, `sort_by_anchor` and `take_cells`. Definitions only.
-use Rattle.std.specs.Prelude.{ℕ, suc, ◌-◌, ◌%◌, Bool, false, cond, not, ◌&&◌, ◌||◌, List, [], ◌∷◌, ◌++◌, map, length, take, ℤ, pos, negsuc, ◌+ℤ◌, ◌-ℤ◌, ◌==◌, nat_le, Float}
+use Rattle.std.specs.Prelude.{ℕ, suc, ◌-◌, ◌%◌, Bool, false, cond, not, ◌&&◌, ◌||◌, List, [], ◌∷◌, ◌++◌, map, length, take, ℤ, pos, negsuc, ◌+ℤ◌, ◌-ℤ◌, ◌==◌, nat_le, Float, Option, Some, None}
 use mathlib.Core.List.{foldr}
 use Prim.Native.Nat.{Ordering}
 use Rattle.std.specs.Float.{binary64}
@@ -13,8 +13,7 @@ use Rattle.float.specs.Total.{total_cmp}
 use Rattle.float.specs.Whole.{floor, ceil, as_i64}
 use Rattle.glyphs.specs.declared.rect.Point.{Point}
 use Rattle.glyphs.specs.declared.rect.Rectangle.{Rectangle}
-use Rattle.glyphs.specs.declared.bounds.Bounds.{Bounds}
-use Rattle.glyphs.specs.declared.bounds.Bounds.TheVariants.{Box, Nothing}
+use Rattle.glyphs.specs.declared.bounds.Extents.{Extents}
 use Rattle.glyphs.specs.Bounds.{ring_bounds}
 use Rattle.glyphs.specs.Rect.{clear_of_obstacles, is_finite}
 use Rattle.regions.specs.Ring.{Piece, outer}
@@ -113,11 +112,11 @@ judge piece min-clearance obstacles cap cells (p ∷ ps) =
     (judge piece min-clearance obstacles cap cells ps)
 
 -- the walk within a box; the cell after the last of HEX_ENUM_CAP ends it
-unfoldable pub cells_within : Bounds → Piece → Point → Lattice → Float → List Rectangle → Cap → HexCells
-cells_within Nothing piece anchor lattice min-clearance obstacles cap = no_cells
-cells_within (Box min-x max-x min-y max-y) piece anchor lattice min-clearance obstacles cap =
+unfoldable pub cells_within : Option Extents → Piece → Point → Lattice → Float → List Rectangle → Cap → HexCells
+cells_within None piece anchor lattice min-clearance obstacles cap = no_cells
+cells_within (Some e) piece anchor lattice min-clearance obstacles cap =
     cond (lattice.spacing ≤ᶠ 0ᶠ || not (is_finite lattice.spacing)) no_cells
-    (judge piece min-clearance obstacles cap no_cells (take hex_enum_cap (all_cells lattice anchor min-x max-x min-y max-y)))
+    (judge piece min-clearance obstacles cap no_cells (take hex_enum_cap (all_cells lattice anchor e.min_x e.max_x e.min_y e.max_y)))
 
 unfoldable pub lattice_valid_cells : Piece → Point → Lattice → Float → List Rectangle → Cap → HexCells
 lattice_valid_cells piece anchor lattice min-clearance obstacles cap =

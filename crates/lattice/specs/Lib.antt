@@ -26,3 +26,4 @@ pub mod Taken
 pub mod Tally
 pub mod Uniform
 pub mod Waiting
+pub mod Walk

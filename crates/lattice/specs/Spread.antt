@@ -1,6 +1,6 @@
 -- The lattice packer over a field, as the code has it: one that is spread, and one that is only counted.
 -- Rests on the law that a cap which is not reached stops nothing.
-use Rattle.std.specs.Prelude.{◌≡◌, ℕ, zero, suc, ◌+◌, ◌-◌, ◌<◌, ◌≤◌, min, Bool, true, false, cond, not, ◌&&◌, ◌||◌, leb, List, [], ◌∷◌, ◌++◌, length, take, nat_le, nat_lt, Float}
+use Rattle.std.specs.Prelude.{◌≡◌, ℕ, zero, suc, ◌+◌, ◌-◌, ◌<◌, ◌≤◌, min, Bool, true, false, cond, not, ◌&&◌, ◌||◌, leb, List, [], ◌∷◌, ◌++◌, length, take, nat_le, nat_lt, Float, Some}
 use Rattle.std.proofs.Math.Path.{refl, ap}
 use Rattle.std.proofs.Common.{sym, ◌∙◌, arith, length-take}
 use Prim.Native.Nat.{Ordering}
@@ -10,7 +10,6 @@ use Rattle.float.specs.Ops.{◌+ᶠ◌, ◌-ᶠ◌, ◌*ᶠ◌, ◌≤ᶠ◌, �
 use Rattle.float.specs.Order.{max, hypot}
 use Rattle.glyphs.specs.declared.rect.Point.{Point}
 use Rattle.glyphs.specs.declared.rect.Rectangle.{Rectangle}
-use Rattle.glyphs.specs.declared.bounds.Bounds.TheVariants.{Box}
 use Rattle.glyphs.specs.Bounds.{ring_bounds}
 use Rattle.glyphs.specs.Rect.{clear_of_obstacles, is_finite}
 use Rattle.regions.specs.Ring.{Piece, outer}
@@ -27,10 +26,7 @@ with_spacing field s =
     record {
       anchor = field.anchor;
       lattice = record { spacing = s; rectangular = field.lattice.rectangular };
-      min_x = field.min_x;
-      max_x = field.max_x;
-      min_y = field.min_y;
-      max_y = field.max_y;
+      extents = field.extents;
     }
 
 -- whether n are there, of a free ones and b more
@@ -53,7 +49,7 @@ module _ (piece : Piece) (c : Float) (near : List Rectangle) where
   unfoldable pub field_spacing : ℕ → Field → Bool → Float
   field_spacing n field honoring =
       let s-min = field.lattice.spacing in
-      let s_max = hypot (field.max_x -ᶠ field.min_x) (field.max_y -ᶠ field.min_y) in
+      let s_max = hypot (field.extents.max_x -ᶠ field.extents.min_x) (field.extents.max_y -ᶠ field.extents.min_y) in
       let hi = max s_max s-min in
       cond (field_fits n field honoring hi) hi (field_widen n field honoring s_max 24 s-min hi)
 
@@ -131,7 +127,7 @@ module _ (piece : Piece) (c : Float) (near : List Rectangle) where
   unfolding cells_within
   uncapped_cells n field h =
       within (field.lattice.spacing ≤ᶠ 0ᶠ || not (is_finite field.lattice.spacing)) n
-      (take hex_enum_cap (all_cells field.lattice field.anchor field.min_x field.max_x field.min_y field.max_y)) h
+      (take hex_enum_cap (all_cells field.lattice field.anchor field.extents.min_x field.extents.max_x field.extents.min_y field.extents.max_y)) h
 
   -- ---- the choices of a packing
   pick :
@@ -187,7 +183,7 @@ counted n anchor cells w true false e = length-take n (sort_by_anchor anchor cel
 counted n anchor cells w false x e = let k = leb-false n (length cells.free) e in omega arith
 
 -- ---- the packer over a piece is the packer over its field
-module _ (piece : Piece) (n : ℕ) (ctx : PackCtx) (near : List Rectangle) (field : Field) (box : ring_bounds (outer piece) ≡ Box field.min_x field.max_x field.min_y field.max_y) (s-min : field.lattice.spacing ≡ spacing ctx) where
+module _ (piece : Piece) (n : ℕ) (ctx : PackCtx) (near : List Rectangle) (field : Field) (box : ring_bounds (outer piece) ≡ Some field.extents) (s-min : field.lattice.spacing ≡ spacing ctx) where
   abbrev rectangular : Bool
   rectangular = field.lattice.rectangular
 
@@ -213,7 +209,7 @@ module _ (piece : Piece) (n : ℕ) (ctx : PackCtx) (near : List Rectangle) (fiel
       ≡ field_take piece (inset ctx) near n (with_spacing field (field_spacing piece (inset ctx) near n field honoring)) honoring
   unfolding spread_cells field_spacing field_take hypot
   spread_is at_min honoring =
-      let s_max = hypot (field.max_x -ᶠ field.min_x) (field.max_y -ᶠ field.min_y) in
+      let s_max = hypot (field.extents.max_x -ᶠ field.extents.min_x) (field.extents.max_y -ᶠ field.extents.min_y) in
       rw (box, ← s-min, fits_is honoring (max s_max field.lattice.spacing), widen_is honoring s_max 24 field.lattice.spacing (max s_max field.lattice.spacing), cells_at _ never)
 
   at_min : lattice_valid_cells piece field.anchor (record { spacing = spacing ctx; rectangular = field.lattice.rectangular }) (inset ctx) near (at n) ≡ cells_of field piece (inset ctx) near (at n)

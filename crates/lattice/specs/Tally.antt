@@ -1,28 +1,22 @@
 -- The walk where only the numbers of free and blocked cells are asked for, and that it is the definition's.
-use Rattle.std.specs.Prelude.{◌≡◌, ℕ, suc, ◌+◌, ◌-◌, ◌*◌, ◌<◌, ◌≤◌, min, Bool, true, false, cond, not, ◌||◌, leb, List, [], ◌∷◌, ◌++◌, length, take, nat_le, Float}
+use Rattle.std.specs.Prelude.{◌≡◌, ℕ, suc, ◌+◌, ◌-◌, ◌<◌, ◌≤◌, Bool, true, false, cond, not, ◌||◌, leb, List, [], ◌∷◌, ◌++◌, length, take, nat_le, Float, Some}
 use Rattle.std.proofs.Math.Path.{refl, ap}
 use Rattle.std.proofs.Common.{◌∙◌, length-append}
 use native.Mathlib.Omega.{arith}
 use borrow.Author.Tests.{le-leb, lt-leb, leb-false}
 use Rattle.float.specs.Ops.{◌≤ᶠ◌, ◌≥ᶠ◌, 0ᶠ}
-use Rattle.glyphs.specs.declared.bounds.Bounds.TheVariants.{Box}
 use Rattle.glyphs.specs.declared.rect.Point.{Point}
 use Rattle.glyphs.specs.declared.rect.Rectangle.{Rectangle}
 use Rattle.glyphs.specs.Rect.{clear_of_obstacles, is_finite}
-use Rattle.regions.specs.declared.margin.Margin.{Margin}
-use Rattle.regions.specs.Ring.{Piece, sum}
+use Rattle.regions.specs.Ring.{Piece}
 use Rattle.regions.specs.Clearance.{signed_clearance}
-use Rattle.regions.specs.Margin.{margin_of}
 use Rattle.lattice.specs.Escape.{point}
-use Rattle.lattice.specs.Lattice.{HexCells, no_cells, Cap, at, reached, judge, hex_enum_cap, row_height, all_cells, cells_within}
-use Rattle.lattice.specs.Rows.{row_of, width, cell_x, cells_from, visit, first_row, last_row, length_cells, no_cells_lem, cells_step, cells_end, rows_step, last_row_lem, no_cells_left, no_rows, visited}
+use Rattle.lattice.specs.Lattice.{HexCells, no_cells, Cap, at, reached, judge, hex_enum_cap, all_cells, cells_within}
+use Rattle.lattice.specs.Rows.{cell_x, cells_from, cells_step, cells_start, cells_end, no_cells_lem, joined, walk}
+use Rattle.lattice.specs.Walk.{cells_in, length_in}
 use Rattle.lattice.specs.declared.count.Counts.{Counts}
 use Rattle.lattice.specs.declared.rows.Field.{Field}
-use Rattle.lattice.specs.declared.rows.Row.{Row}
-
--- what is asked of a piece and a margin
-abbrev pub Sound : List ℕ → List Float → Margin → Type 0
-Sound sizes coords margin = (0 < length sizes) × (sum sizes * 2 ≤ length coords) × (margin ≡ margin_of margin.least)
+use Rattle.lattice.specs.declared.row.Row.{Row}
 
 abbrev pub counts_of : HexCells → Counts
 counts_of cells = record { free = length cells.free; blocked = length cells.blocked }
@@ -30,7 +24,7 @@ counts_of cells = record { free = length cells.free; blocked = length cells.bloc
 -- the cells of a lattice within its box
 abbrev pub cells_of : Field → Piece → Float → List Rectangle → Cap → HexCells
 cells_of field piece min-clearance near cap =
-    cells_within (Box field.min_x field.max_x field.min_y field.max_y) piece field.anchor field.lattice min-clearance near cap
+    cells_within (Some field.extents) piece field.anchor field.lattice min-clearance near cap
 
 abbrev pub none : Counts
 none = record { free = 0; blocked = 0 }
@@ -72,26 +66,34 @@ module _ (piece : Piece) (min-clearance : Float) (near : List Rectangle) where
   pub counted_bound : (t : Counts) (p : Point) (r : Counts) → r ≡ count_cell t p → (r.free ≤ t.free + 1) × (r.blocked ≤ t.blocked + 1)
   counted_bound t p r e = rw e (counted_le t p)
 
-  pub row_bound : (cap : ℕ) (t : Counts) (row : Row) (s : Float) (m : ℕ) (r : Counts) → r ≡ tally cap t (cells_from row s 0 m) → (r.free ≤ t.free + m) × (r.blocked ≤ t.blocked + m)
-  row_bound cap t row s m r e = rw e (rw (length_cells row s 0 m) at (tally_le cap t (cells_from row s 0 m)))
+  pub row_bound : (cap : ℕ) (t : Counts) (row : Row) (r : Counts) → r ≡ tally cap t (cells_in row) → (r.free ≤ t.free + row.count) × (r.blocked ≤ t.blocked + row.count)
+  row_bound cap t row r e = rw e (rw (length_in row) at (tally_le cap t (cells_in row)))
 
-  -- ---- a turn of the loop over a row: r is what is counted with the cell k, at (x, y)
-  module _ (cap : ℕ) (t : Counts) (row : Row) (s : Float) (k m : ℕ) (h : k < m) (x y : Float) (ex : x ≡ cell_x row s k) (ey : y ≡ row.y) (r : Counts) (er : r ≡ count_cell t (point x y)) where
-    pub row_stop : cap ≤ r.free → tally cap t (cells_from row s k (m - k)) ≡ r
+  -- ---- a turn of the loop over a row: r is what is counted with the cell k, at p
+  module _ (cap : ℕ) (t : Counts) (row : Row) where
+    -- what is counted from the cell k on
+    abbrev pub tally_from : ℕ → Counts
+    tally_from k = tally cap t (cells_from row.x row.y row.spacing (row.first + k) (row.count - k))
+
+    pub row_start : tally cap t (cells_in row) ≡ tally_from 0
+    row_start = ap (tally cap t) (cells_start row.x row.y row.spacing row.first row.count)
+
+    module _ (k : ℕ) (h : k < row.count) (p : Point) (ep : p ≡ point (cell_x row.x row.spacing (row.first + k)) row.y) (r : Counts) (er : r ≡ count_cell t p) where
+      pub row_stop : cap ≤ r.free → tally_from k ≡ r
+      unfolding tally
+      row_stop e = rw (cells_step row.x row.y row.spacing row.first k row.count h, ← ep, ← er, le-leb _ _ e)
+
+      pub row_next : r.free < cap → tally_from k ≡ tally cap r (cells_from row.x row.y row.spacing (row.first + (k + 1)) (row.count - (k + 1)))
+      unfolding tally
+      row_next e = rw (cells_step row.x row.y row.spacing row.first k row.count h, ← ep, ← er, lt-leb _ _ e)
+
+    pub row_end : (k : ℕ) → row.count ≤ k → tally_from k ≡ t
     unfolding tally
-    row_stop e = rw (cells_step row s k m h, ← ex, ← ey, ← er, le-leb _ _ e)
+    row_end k h = rw (cells_end row.x row.y row.spacing row.first k row.count h)
 
-    pub row_next : r.free < cap → tally cap t (cells_from row s k (m - k)) ≡ tally cap r (cells_from row s (k + 1) (m - (k + 1)))
+    pub row_none : row.count ≡ 0 → tally cap t (cells_in row) ≡ t
     unfolding tally
-    row_next e = rw (cells_step row s k m h, ← ex, ← ey, ← er, lt-leb _ _ e)
-
-  pub row_end : (cap : ℕ) (t : Counts) (row : Row) (s : Float) (k m : ℕ) → m ≤ k → tally cap t (cells_from row s k (m - k)) ≡ t
-  unfolding tally
-  row_end cap t row s k m h = rw (cells_end row s k m h)
-
-  pub row_none : (cap : ℕ) (t : Counts) (row : Row) (s : Float) (m : ℕ) → m ≡ 0 → tally cap t (cells_from row s 0 m) ≡ t
-  unfolding tally
-  row_none cap t row s m z = rw (z, no_cells_lem)
+    row_none z = rw (no_cells_lem row.x row.y row.spacing row.first row.count z)
 
   -- ---- one list after another
   append_into :
@@ -111,23 +113,17 @@ module _ (piece : Piece) (min-clearance : Float) (near : List Rectangle) where
       append_into cap ys (nat_le cap q.free) q (tally cap q xs) (tally cap q (xs ++ ys)) refl
       (λ (e : leb cap q.free ≡ false). tally_append cap q xs ys (leb-false cap q.free e))
 
-  -- ---- a turn of the loop over the rows: r is what is counted with the row of rank u
-  module _ (cap : ℕ) (t : Counts) (field : Field) (row-h : Float) (u last left : ℕ) (h : u ≤ last) (row : Row) (e : row ≡ row_of field row-h u) (m : ℕ) (em : m ≡ min (width row) left) (r : Counts) (er : r ≡ tally cap t (cells_from row field.lattice.spacing 0 m)) where
-    parts : visit left field row-h u last ≡ cells_from row field.lattice.spacing 0 m ++ visit (left - m) field row-h (u + 1) last
-    parts = rw (em, e) (rows_step field row-h u last left h)
+  -- ---- a turn of the loop over the rows: r is what is counted with the row
+  module _ (cap : ℕ) (t : Counts) (row : Row) (rows : List (List Point)) (r : Counts) (er : r ≡ tally cap t (cells_in row)) (g : t.free < cap) where
+    pub rows_stop : cap ≤ r.free → tally cap t (joined (cells_in row ∷ rows)) ≡ r
+    rows_stop k = rw (tally_append cap t (cells_in row) (joined rows) g, ← er, le-leb _ _ k)
 
-    pub rows_stop : t.free < cap → cap ≤ r.free → tally cap t (visit left field row-h u last) ≡ r
-    rows_stop g k = rw (parts, tally_append cap t (cells_from row field.lattice.spacing 0 m) _ g, ← er, le-leb _ _ k)
+    pub rows_next : r.free < cap → tally cap t (joined (cells_in row ∷ rows)) ≡ tally cap r (joined rows)
+    rows_next k = rw (tally_append cap t (cells_in row) (joined rows) g, ← er, lt-leb _ _ k)
 
-    pub rows_next : t.free < cap → r.free < cap → tally cap t (visit left field row-h u last) ≡ tally cap r (visit (left - m) field row-h (u + 1) last)
-    rows_next g k = rw (parts, tally_append cap t (cells_from row field.lattice.spacing 0 m) _ g, ← er, lt-leb _ _ k)
-
-    pub rows_full : t.free < cap → r.free < cap → left - m ≡ 0 → tally cap t (visit left field row-h u last) ≡ r
-    unfolding tally
-    rows_full g k z = rows_next g k ∙ rw (z, no_cells_left)
-
-    pub rows_last : u ≡ last → tally cap t (visit left field row-h u last) ≡ r
-    rows_last z = rw (last_row_lem field row-h u last left z, ← e, ← em, ← er)
+  pub rows_none : (cap : ℕ) (t : Counts) → tally cap t (joined []) ≡ t
+  unfolding tally
+  rows_none cap t = refl
 
   -- ---- the definition's numbers
   module _ (n : ℕ) (cells : HexCells) (p : Point) (ps : List Point) (h : length cells.free < n) (later : (found : HexCells) → length found.free < n → counts_of (judge piece min-clearance near (at n) found ps) ≡ tally n (counts_of found) ps) where
@@ -164,20 +160,17 @@ module _ (piece : Piece) (min-clearance : Float) (near : List Rectangle) where
       judged n cells p ps h (λ (found : HexCells) (k : length found.free < n). counts_judged n found ps k)
       (signed_clearance p.x p.y piece ≥ᶠ min-clearance) (clear_of_obstacles p.x p.y near min-clearance)
 
-  pub cells_counted :
-      (field : Field) (cap : ℕ) → 0 < cap → field.lattice.spacing ≤ᶠ 0ᶠ ≡ false → is_finite field.lattice.spacing ≡ true
-      → let row-h = row_height field.lattice in
-      counts_of (cells_of field piece min-clearance near (at cap)) ≡ tally cap none (visit hex_enum_cap field row-h (first_row field row-h) (last_row field row-h))
-  unfolding cells_within
-  cells_counted field cap h e f =
-      rw (e, f)
-      (counts_judged cap no_cells (take hex_enum_cap (all_cells field.lattice field.anchor field.min_x field.max_x field.min_y field.max_y)) h
-      ∙ ap (tally cap none) (visited field hex_enum_cap))
+  -- the cells of a lattice are those of its walk, judged
+  pub cells_judged : (field : Field) (cap : Cap) → cells_of field piece min-clearance near cap ≡ judge piece min-clearance near cap no_cells (walk field)
+  unfolding cells_within walk judge
+  cells_judged field cap = go (field.lattice.spacing ≤ᶠ 0ᶠ || not (is_finite field.lattice.spacing))
+    where
+      all : List Point
+      all = take hex_enum_cap (all_cells field.lattice field.anchor field.extents.min_x field.extents.max_x field.extents.min_y field.extents.max_y)
 
-  pub cells_none : (field : Field) (cap : Cap) → (field.lattice.spacing ≤ᶠ 0ᶠ || not (is_finite field.lattice.spacing)) ≡ true → cells_of field piece min-clearance near cap ≡ no_cells
-  unfolding cells_within
-  cells_none field cap e = rw e
+      go : (b : Bool) → cond b no_cells (judge piece min-clearance near cap no_cells all) ≡ judge piece min-clearance near cap no_cells (cond b [] all)
+      go true = refl
+      go false = refl
 
-  pub tally_no_rows : (cap : ℕ) (t : Counts) (left : ℕ) (field : Field) (row-h : Float) (u last : ℕ) → last < u → tally cap t (visit left field row-h u last) ≡ t
-  unfolding tally
-  tally_no_rows cap t left field row-h u last h = rw (no_rows left field row-h u last h)
+  pub cells_counted : (field : Field) (cap : ℕ) → 0 < cap → counts_of (cells_of field piece min-clearance near (at cap)) ≡ tally cap none (walk field)
+  cells_counted field cap h = ap counts_of (cells_judged field (at cap)) ∙ counts_judged cap no_cells (walk field) h

@@ -1,11 +1,10 @@
 -- discs.rs, `pack_uniform_piece`: the lattice packer for one piece. Definitions only.
-use Rattle.std.specs.Prelude.{ℕ, zero, suc, ◌+◌, Bool, true, cond, not, ◌&&◌, ◌||◌, leb, List, length, ◌==◌, nat_le, nat_lt, Float}
+use Rattle.std.specs.Prelude.{ℕ, zero, suc, ◌+◌, Bool, true, cond, not, ◌&&◌, ◌||◌, leb, List, length, ◌==◌, nat_le, nat_lt, Float, Option, Some, None}
 use Rattle.float.specs.Ops.{◌+ᶠ◌, ◌-ᶠ◌, ◌*ᶠ◌, ◌≤ᶠ◌, ½ᶠ, literal}
 use Rattle.float.specs.Order.{sqrt, max}
 use Rattle.glyphs.specs.declared.rect.Point.{Point}
 use Rattle.glyphs.specs.declared.rect.Rectangle.{Rectangle}
-use Rattle.glyphs.specs.declared.bounds.Bounds.{Bounds}
-use Rattle.glyphs.specs.declared.bounds.Bounds.TheVariants.{Box, Nothing}
+use Rattle.glyphs.specs.declared.bounds.Extents.{Extents}
 use Rattle.glyphs.specs.Bounds.{ring_bounds}
 use Rattle.glyphs.specs.Rect.{obstacles_near}
 use Rattle.regions.specs.Ring.{Piece, outer}
@@ -47,10 +46,10 @@ module _ (piece : Piece) (n : ℕ) (ctx : PackCtx) (rectangular : Bool) (near : 
       (cond (fits_at honoring mid) (widen honoring s_max turns mid hi) (widen honoring s_max turns lo mid))
 
   -- the spacing widened, and the n cells nearest the anchor at it
-  unfoldable pub spread_cells : Bounds → HexCells → Bool → List Point
-  spread_cells Nothing at_min honoring = take_cells at_min n anchor honoring
-  spread_cells (Box min-x max-x min-y max-y) at_min honoring =
-      let s_max = sqrt ((max-x -ᶠ min-x) *ᶠ (max-x -ᶠ min-x) +ᶠ (max-y -ᶠ min-y) *ᶠ (max-y -ᶠ min-y)) in
+  unfoldable pub spread_cells : Option Extents → HexCells → Bool → List Point
+  spread_cells None at_min honoring = take_cells at_min n anchor honoring
+  spread_cells (Some e) at_min honoring =
+      let s_max = sqrt ((e.max_x -ᶠ e.min_x) *ᶠ (e.max_x -ᶠ e.min_x) +ᶠ (e.max_y -ᶠ e.min_y) *ᶠ (e.max_y -ᶠ e.min_y)) in
       let hi = max s_max (spacing ctx) in
       let lo = cond (fits_at honoring hi) hi (widen honoring s_max 24 (spacing ctx) hi) in
       take_cells (cells_at lo never) n anchor honoring

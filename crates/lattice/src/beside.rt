@@ -1,20 +1,19 @@
 // The obstacles of a row, found once: its places ask only those that are not too far above or below it.
-ghost use Rattle.std.specs.Prelude.{◌≡◌};
+ghost use Rattle.std.specs.Prelude.{◌≡◌, IfSome};
 ghost use Rattle.glyphs.specs.Rect.{rectangles, clear_of_obstacles};
-ghost use Rattle.regions.specs.Margin.{margin_of};
-ghost use Rattle.lattice.specs.Beside.{abreast, BesideOf};
+ghost use Rattle.lattice.specs.Beside.{abreast, BesideOf, Held};
 
 use crate::near::put_if;
-use glyphs::rect::{Rectangle, obstacle};
+use crate::site::Site;
+use glyphs::rect::{Point, Rectangle, obstacle};
 use regions::margin::Margin;
 use regions::pillars::{beyond, clears_obstacles};
 
-// The height of a row and how many obstacles are held for it. Where they do not fit, all are asked.
-#[derive(Clone, Copy)]
+// How many obstacles are held for a row, where they fit: else all are asked.
+#[derive(Drop)]
 pub struct Beside {
-    pub y: f64,
-    pub count: usize,
-    pub fits: bool,
+    pub count: Option<usize>,
+    pub pillars: [f64; 128],
 }
 
 // Whether an obstacle may be too near a place at the height `y`.
@@ -25,48 +24,48 @@ fn abreast(y: f64, rect: Rectangle, margin: Margin) -> bool
     !(dy * dy >= margin.high)
 }
 
-pub fn beside_at(y: f64, near: &[f64], margin: Margin, pillars: &mut [f64; 128]) -> Beside
-    requires { margin ≡ margin_of margin.least }
-    ensures { (result.y ≡ y) × BesideOf result margin.least (rectangles near.now) pillars.new }
-{
-    let n = near.len() / 4;
-    let mut m = 0;
-    let mut k = 0;
-    while k < n {
-        if m >= 32 {
-            return Beside {
-                y,
-                count: 0,
-                fits: false,
-            };
+impl Beside {
+    // Room for what is found.
+    pub fn new() -> Beside {
+        Beside {
+            count: None,
+            pillars: [0.0; 128],
         }
-        let rect = obstacle(near, k);
-        let kept = abreast(y, rect, margin);
-        m = put_if(kept, rect, pillars, m);
-        k += 1;
     }
-    Beside {
-        y,
-        count: m,
-        fits: true,
-    }
-}
 
-// Whether the place x of the row keeps the margin to every obstacle.
-pub fn beside_clears(
-    x: f64,
-    beside: Beside,
-    near: &[f64],
-    margin: Margin,
-    pillars: &[f64; 128],
-) -> bool
-    requires { (margin ≡ margin_of margin.least) × BesideOf beside margin.least (rectangles near.now) pillars.now }
-    ensures { result ≡ clear_of_obstacles x beside.y (rectangles near.now) margin.least }
-{
-    if beside.fits {
-        let e = beside.count * 4;
-        let held = &pillars[..];
-        return clears_obstacles(x, beside.y, &held[..e], margin);
+    // Puts the obstacles beside a row where they are held, and answers how many they are.
+    fn put(&mut self, y: f64, site: Site) -> Option<usize>
+        ensures { IfSome result (λ m. Held y m self.new site.entry) }
+    {
+        let mut m = 0;
+        for k in 0..site.near.len() / 4 {
+            if m >= 32 {
+                return None;
+            }
+            let rect = obstacle(site.near, k);
+            let kept = abreast(y, rect, site.margin);
+            m = put_if(kept, rect, &mut self.pillars, m);
+        }
+        Some(m)
     }
-    clears_obstacles(x, beside.y, near, margin)
+
+    // Finds the obstacles beside a row at the height y.
+    pub fn find(&mut self, y: f64, site: Site)
+        ensures { BesideOf y self.new site.entry }
+    {
+        self.count = self.put(y, site);
+    }
+
+    // Whether a place of the row keeps the margin to every obstacle.
+    pub fn clears(&self, p: Point, site: Site) -> bool
+        requires { BesideOf p.y self.now site }
+        ensures { result ≡ clear_of_obstacles p.x p.y (rectangles site.entry.near.now) site.entry.margin.least }
+    {
+        let Some(m) = self.count else {
+            return clears_obstacles(p.x, p.y, site.near, site.margin);
+        };
+        let e = m * 4;
+        let held = &self.pillars[..];
+        clears_obstacles(p.x, p.y, &held[..e], site.margin)
+    }
 }

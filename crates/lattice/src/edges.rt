@@ -1,17 +1,24 @@
 // The edges of a piece that lie near a height, found once for a row of cells, and the test of a place against them.
-ghost use Rattle.std.specs.Prelude.{◌≡◌, ◌+◌, ◌*◌, ◌<◌, ◌≤◌, true, length};
+ghost use Rattle.std.specs.Prelude.{◌≡◌, ◌/◌, ◌<◌, ◌≤◌, true, length, IfSome, take};
 ghost use Rattle.float.specs.Ops.{◌<ᶠ◌, 0ᶠ};
 ghost use Rattle.rounding.specs.Bounds.{Sized};
-ghost use Rattle.regions.specs.Ring.{piece_of};
-ghost use Rattle.regions.specs.Margin.{margin_of};
-ghost use Rattle.lattice.specs.Tally.{Sound};
+ghost use Rattle.regions.specs.Pieces.{rings_of};
 ghost use Rattle.lattice.specs.Far.{Sure, Beyond};
-ghost use Rattle.lattice.specs.Edges.{edge, edges_in, put_edge, keeps, keeps_edges, NearEdges, Added, AddedRing};
+ghost use Rattle.lattice.specs.Edges.{edge_at, keeps, keeps_edges, NearEdges, Added, AddedRing};
 
+use crate::site::Site;
 use glyphs::points::{vx, vy};
+use glyphs::rect::Point;
 use regions::clearance::edge_square;
 use regions::margin::Margin;
-use regions::ring::{after, ring_at};
+use regions::ring::after;
+
+// The edge of a ring from one vertex to the next.
+#[derive(Clone, Copy)]
+pub struct Edge {
+    pub from: Point,
+    pub to: Point,
+}
 
 // Whether a value is so small that no sum of a few such overflows.
 fn is_modest(v: f64) -> bool
@@ -25,7 +32,6 @@ fn is_modest(v: f64) -> bool
 
 // How far off a height an edge is too far to matter, or NaN where that is not sure.
 fn reach_of(y: f64, margin: Margin) -> f64
-    requires { margin ≡ margin_of margin.least }
     ensures { Sure margin.least y result }
 {
     let reach = margin.least * 1.0001;
@@ -43,10 +49,12 @@ fn reach_of(y: f64, margin: Margin) -> f64
     0.0 / 0.0
 }
 
-// Whether an edge between two heights lies `reach` or more above `y`, or as far below.
-fn is_far(y: f64, reach: f64, ay: f64, by: f64) -> bool
-    ensures { result ≡ true → Beyond y reach ay by }
+// Whether an edge lies `reach` or more above `y`, or as far below.
+fn is_far(y: f64, reach: f64, edge: Edge) -> bool
+    ensures { result ≡ true → Beyond y reach edge.from.y edge.to.y }
 {
+    let ay = edge.from.y;
+    let by = edge.to.y;
     let here = y - ay;
     let there = y - (ay + (by - ay));
     if here >= reach {
@@ -63,105 +71,75 @@ fn is_far(y: f64, reach: f64, ay: f64, by: f64) -> bool
     false
 }
 
-fn put_edge(edges: &mut [f64], m: usize, ax: f64, ay: f64, bx: f64, by: f64)
-    requires { m * 4 + 3 < length edges.old }
-    ensures { edges.new ≡ put_edge edges.old m (edge ax ay bx by) }
+// The edge from the vertex `i` of a ring on.
+fn edge_at(ring: &[f64], i: usize) -> Edge
+    requires { i < length ring.now / 2 }
+    ensures { result ≡ edge_at ring.now (length ring.now / 2) i }
 {
-    let a = m * 4;
-    edges[a] = ax;
-    edges[a + 1] = ay;
-    edges[a + 2] = bx;
-    edges[a + 3] = by;
+    let k = after(ring.len() / 2, i);
+    Edge {
+        from: Point {
+            x: vx(ring, i),
+            y: vy(ring, i),
+        },
+        to: Point {
+            x: vx(ring, k),
+            y: vy(ring, k),
+        },
+    }
 }
 
-// Puts an edge behind the `m` of a list unless it is far, and answers how many there are then, or 65 where it does not fit.
-fn put_near(
-    y: f64,
-    reach: f64,
-    ax: f64,
-    ay: f64,
-    bx: f64,
-    by: f64,
-    edges: &mut [f64],
-    m: usize,
-) -> usize
-    requires { 256 ≤ length edges.old }
-    ensures { result ≤ 64 → Added y reach (edge ax ay bx by) m edges.old result edges.new }
+// Puts an edge behind the `m` of a list unless it is far, and answers how many there are then, where it fits.
+fn put_near(y: f64, reach: f64, edge: Edge, edges: &mut [Edge], m: usize) -> Option<usize>
+    requires { m ≤ length edges.old }
+    ensures { IfSome result (λ n. (n ≤ length edges.new) × Added y reach edge m edges.old n edges.new) }
 {
-    if is_far(y, reach, ay, by) {
-        return m;
+    if is_far(y, reach, edge) {
+        return Some(m);
     }
-    if m < 64 {
-        put_edge(&mut edges[..], m, ax, ay, bx, by);
-        return m + 1;
+    if m < edges.len() {
+        edges[m] = edge;
+        return Some(m + 1);
     }
-    65
+    None
 }
 
 // Puts the near edges of a ring behind the `start` of a list.
-fn put_ring(y: f64, reach: f64, ring: &[f64], edges: &mut [f64], start: usize) -> usize
-    requires { 256 ≤ length edges.old }
-    ensures { result ≤ 64 → AddedRing y reach ring.now start edges.old result edges.new }
+fn put_ring(y: f64, reach: f64, ring: &[f64], edges: &mut [Edge], start: usize) -> Option<usize>
+    requires { start ≤ length edges.old }
+    ensures { IfSome result (λ n. (n ≤ length edges.new) × AddedRing y reach ring.now start edges.old n edges.new) }
 {
     let n = ring.len() / 2;
     if n < 2 {
-        return start;
+        return Some(start);
     }
     let mut m = start;
-    let mut i = 0;
-    while i < n {
-        let k = after(n, i);
-        m = put_near(
-            y,
-            reach,
-            vx(ring, i),
-            vy(ring, i),
-            vx(ring, k),
-            vy(ring, k),
-            &mut edges[..],
-            m,
-        );
-        if m > 64 {
-            return 65;
-        }
-        i += 1;
+    for i in 0..n {
+        m = put_near(y, reach, edge_at(ring, i), &mut edges[..], m)?;
     }
-    m
+    Some(m)
 }
 
-// The edges of a piece near the height `y`, four floats each, and how many they are, or 65 where they do not fit.
-pub fn near_edges(
-    y: f64,
-    sizes: &[usize],
-    coords: &[f64],
-    margin: Margin,
-    edges: &mut [f64; 256],
-) -> usize
-    requires { Sound sizes.now coords.now margin × (0ᶠ <ᶠ margin.least ≡ true) }
-    ensures { result ≤ 64 → NearEdges y margin.least (piece_of sizes.now coords.now) result edges.new }
+// The edges of a piece near the height `y`, at the front of `edges`, and how many they are, where they fit.
+pub fn near_edges(y: f64, site: Site, edges: &mut [Edge]) -> Option<usize>
+    requires { 0ᶠ <ᶠ site.margin.least ≡ true }
+    ensures { IfSome result (λ n. (n ≤ length edges.new) × NearEdges y site.entry.margin.least (rings_of site.entry.piece) (take n edges.new)) }
 {
-    let reach = reach_of(y, margin);
+    let reach = reach_of(y, site.margin);
     let mut m = 0;
-    let mut at = 0;
-    let mut k = 0;
-    while k < sizes.len() {
-        let n = sizes[k];
-        m = put_ring(y, reach, ring_at(coords, at, n), edges, m);
-        if m > 64 {
-            return 65;
-        }
-        at += n;
-        k += 1;
+    for ring in site.piece.rings() {
+        m = put_ring(y, reach, ring, &mut edges[..], m)?;
     }
-    m
+    Some(m)
 }
 
-// Whether the distance from (x, y) to an edge is not below the margin's.
-fn keeps_edge(x: f64, y: f64, ax: f64, ay: f64, bx: f64, by: f64, margin: Margin) -> bool
-    requires { margin ≡ margin_of margin.least }
-    ensures { result ≡ keeps x y margin.least (edge ax ay bx by) }
+// Whether the distance from a place to an edge is not below the margin's.
+fn keeps_edge(p: Point, edge: Edge, margin: Margin) -> bool
+    ensures { result ≡ keeps p.x p.y margin.least edge }
 {
-    let square = edge_square(x, y, ax, ay, bx, by);
+    let a = edge.from;
+    let b = edge.to;
+    let square = edge_square(p.x, p.y, a.x, a.y, b.x, b.y);
     if square >= margin.high {
         return true;
     }
@@ -171,26 +149,14 @@ fn keeps_edge(x: f64, y: f64, ax: f64, ay: f64, bx: f64, by: f64, margin: Margin
     !(float::root(square) < margin.least)
 }
 
-// Whether (x, y) keeps its distance from each of the first `m` edges of a list.
-pub fn keeps_edges(x: f64, y: f64, m: usize, edges: &[f64; 256], margin: Margin) -> bool
-    requires { (m ≤ 64) × (margin ≡ margin_of margin.least) }
-    ensures { result ≡ keeps_edges x y margin.least (edges_in edges.now m) }
+// Whether a place keeps its distance from each of some edges.
+pub fn keeps_edges(p: Point, edges: &[Edge], margin: Margin) -> bool
+    ensures { result ≡ keeps_edges p.x p.y margin.least edges.now }
 {
-    let mut k = 0;
-    while k < m {
-        let a = k * 4;
-        if !keeps_edge(
-            x,
-            y,
-            edges[a],
-            edges[a + 1],
-            edges[a + 2],
-            edges[a + 3],
-            margin,
-        ) {
+    for edge in edges {
+        if !keeps_edge(p, *edge, margin) {
             return false;
         }
-        k += 1;
     }
     true
 }

@@ -1,9 +1,9 @@
 // glyphs.rs, `obstacles_near`: the obstacles near a piece, written to a slice.
-ghost use Rattle.std.specs.Prelude.{◌≡◌, ◌+◌, ◌*◌, ◌<◌, ◌≤◌, [], ◌∷◌, ◌++◌, length, take, if◌then◌else◌};
-ghost use Rattle.glyphs.specs.declared.bounds.Bounds.TheVariants.{Box};
+ghost use Rattle.std.specs.Prelude.{◌≡◌, ◌+◌, ◌*◌, ◌<◌, ◌≤◌, [], ◌∷◌, ◌++◌, length, if◌then◌else◌};
 ghost use Rattle.glyphs.specs.Rect.{rects_from, rectangles, obstacles_near};
 ghost use Rattle.lattice.specs.Near.{put_rect};
 
+use glyphs::bounds::Extents;
 use glyphs::rect::{Rectangle, is_near, obstacle};
 
 fn put_obstacle(out: &mut [f64], k: usize, rect: Rectangle)
@@ -29,27 +29,23 @@ pub fn put_if(near: bool, rect: Rectangle, out: &mut [f64], m: usize) -> usize
     m
 }
 
-// The obstacles near a piece within the given bounds, at the front of `out`, and how many they are.
-pub fn near_obstacles(
+// The obstacles near a piece within the given extents, put at the front of `out`.
+pub fn near_obstacles<'a>(
     obstacles: &[f64],
     inset: f64,
-    min_x: f64,
-    max_x: f64,
-    min_y: f64,
-    max_y: f64,
-    out: &mut [f64],
-) -> usize
+    extents: Extents,
+    out: &'a mut [f64],
+) -> &'a [f64]
     requires { length obstacles.now ≤ length out.old }
-    ensures { (result * 4 ≤ length out.new) × (rectangles (take (result * 4) out.new) ≡ obstacles_near (Box min_x max_x min_y max_y) (rectangles obstacles.now) inset) }
+    ensures { rectangles result.now ≡ obstacles_near (Some extents) (rectangles obstacles.now) inset }
 {
     let n = obstacles.len() / 4;
     let mut m = 0;
-    let mut k = 0;
-    while k < n {
+    for k in 0..n {
         let rect = obstacle(obstacles, k);
-        let near = is_near(rect, inset, min_x, max_x, min_y, max_y);
+        let near = is_near(rect, inset, extents);
         m = put_if(near, rect, &mut out[..], m);
-        k += 1;
     }
-    m
+    let e = m * 4;
+    &out[..e]
 }

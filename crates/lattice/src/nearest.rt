@@ -19,7 +19,8 @@ pub fn squared_distance(a: Point, b: Point) -> f64
     (a.x - b.x) * (a.x - b.x) + (a.y - b.y) * (a.y - b.y)
 }
 
-// Whether `a` comes before `b`: by squared distance, then y, then x.
+// Whether `a` comes before `b`: by squared distance, then y, then x. Keys are worked out one after another, as mostly the
+// first decides: a tuple of them would need all.
 fn precedes(anchor: Point, a: Point, b: Point) -> bool
     ensures { result ≡ is_lt (by_anchor anchor a b) }
 {
@@ -48,7 +49,8 @@ fn cell(cells: &[f64], k: usize) -> Point
     }
 }
 
-// How many of the first `m` cells, which are in order, `p` is not before.
+// How many of the first `m` cells, which are in order, `p` is not before. C lends the cells as floats, so no search of
+// the library's finds one.
 fn place(cells: &[f64], m: usize, anchor: Point, p: Point) -> usize
     requires { (m * 2 ≤ length cells.now) × Ascending (by_anchor anchor) (points m cells.now) }
     ensures { result ≡ lead (by_anchor anchor) p (points m cells.now) }
@@ -72,11 +74,7 @@ fn make_room(cells: &mut [f64], k: usize, e: usize)
     ensures { cells.new ≡ moved cells.old (k * 2) (e * 2) }
 {
     let a = k * 2;
-    let mut i = e * 2;
-    while i > a {
-        cells[i + 1] = cells[i - 1];
-        i -= 1;
-    }
+    cells.copy_within(a..e * 2, a + 2);
 }
 
 fn put(cells: &mut [f64], k: usize, p: Point)
@@ -88,15 +86,6 @@ fn put(cells: &mut [f64], k: usize, p: Point)
     cells[a + 1] = p.y;
 }
 
-pub fn lesser(a: usize, b: usize) -> usize
-    ensures { result ≡ min a b }
-{
-    if a < b {
-        return a;
-    }
-    b
-}
-
 // Puts `p` among the `m` cells; of `cap` and one more the last is dropped. Answers how many there are then.
 pub fn keep(cells: &mut [f64], m: usize, cap: usize, anchor: Point, p: Point) -> usize
     requires { (m ≤ cap) × (cap * 2 ≤ length cells.old) × Ascending (by_anchor anchor) (points m cells.old) }
@@ -104,7 +93,7 @@ pub fn keep(cells: &mut [f64], m: usize, cap: usize, anchor: Point, p: Point) ->
 {
     let k = place(&cells[..], m, anchor, p);
     if k < cap {
-        let e = lesser(m, cap - 1);
+        let e = m.min(cap - 1);
         make_room(&mut cells[..], k, e);
         put(&mut cells[..], k, p);
         return e + 1;
@@ -147,16 +136,14 @@ pub fn merge_run(
     ensures { (result ≡ min (m + k) cap) × (cells.new ≡ written (flat (take cap (inserted (by_anchor anchor) (points m cells.old) (points k run.now)))) cells.old) }
 {
     let mut i = m;
-    let mut j = k;
-    while j > 0 {
-        let p = cell(run, j - 1);
+    for j in (0..k).rev() {
+        let p = cell(run, j);
         while is_before_last(&cells[..], i, anchor, p) {
             i -= 1;
             let q = cell(&cells[..], i);
-            put_below(&mut cells[..], cap, i + j, q);
+            put_below(&mut cells[..], cap, i + j + 1, q);
         }
-        j -= 1;
         put_below(&mut cells[..], cap, i + j, p);
     }
-    lesser(m + k, cap)
+    (m + k).min(cap)
 }

@@ -8,10 +8,7 @@ ghost use Rattle.lattice.specs.Span.{rank_of, of_rank};
 fn rank(i: i64) -> u64
     ensures { result ≡ rank_of i }
 {
-    if i >= 0 {
-        return (i as u64) + 0x8000_0000_0000_0000;
-    }
-    (i - i64::MIN) as u64
+    i.abs_diff(i64::MIN)
 }
 
 // `floor() as i64` and `ceil() as i64`, by rank.
@@ -31,10 +28,7 @@ pub fn ceil_rank(x: f64) -> u64
 fn signed(u: u64) -> i64
     ensures { result ≡ of_rank u }
 {
-    if u >= 0x8000_0000_0000_0000 {
-        return (u - 0x8000_0000_0000_0000) as i64;
-    }
-    (u as i64) + i64::MIN
+    i64::MIN.wrapping_add_unsigned(u)
 }
 
 // The number of a rank, `as f64`.

@@ -3,8 +3,10 @@ ghost use Rattle.std.specs.Prelude.{◌≡◌, ◌*◌, ◌<◌, ◌≤◌, true
 ghost use Rattle.laws.specs.Lists.{written};
 ghost use Rattle.glyphs.specs.Bounds.{ring_bounds};
 ghost use Rattle.glyphs.specs.Rect.{rectangles};
-ghost use Rattle.regions.specs.Ring.{sum, outer, piece_of};
-ghost use Rattle.lattice.specs.Around.{field_at};
+ghost use Rattle.regions.specs.Ring.{outer};
+ghost use Rattle.regions.specs.Pieces.{rings_of};
+ghost use Rattle.lattice.specs.Around.{field_at, near_of};
+ghost use Rattle.lattice.specs.Context.{inset};
 ghost use Rattle.glyphs.specs.Spots.{flat};
 ghost use Rattle.lattice.specs.Uniform.{anchor_of, pack_around};
 
@@ -12,70 +14,71 @@ use crate::context::{Lattice, PackCtx};
 use crate::count::count_cells;
 use crate::escape::escape_obstacles;
 use crate::near::near_obstacles;
-use crate::nearest::lesser;
 use crate::rows::Field;
+use crate::site::Site;
 use crate::spread::pack_field;
-use glyphs::bounds::{Bounds, ring_bounds};
+use glyphs::bounds::{Extents, ring_bounds};
 use glyphs::rect::Point;
 use regions::margin::Margin;
-use regions::ring::ring_at;
-
-// The deepest point, moved off the obstacles near its piece.
-fn anchor_of(poi: Point, sizes: &[usize], coords: &[f64], near: &[f64], inset: f64) -> Point
-    requires { (0 < length sizes.now) × (sum sizes.now * 2 ≤ length coords.now) }
-    ensures { result ≡ anchor_of poi (piece_of sizes.now coords.now) (rectangles near.now) inset }
-{
-    if near.len() / 4 == 0 {
-        return poi;
-    }
-    escape_obstacles(poi, sizes, coords, near, inset)
-}
+use regions::piece::RegionPiece;
 
 // The bounds of a piece's outer ring.
-pub fn piece_bounds(sizes: &[usize], coords: &[f64]) -> Bounds
-    requires { (0 < length sizes.now) × (sum sizes.now * 2 ≤ length coords.now) }
-    ensures { result ≡ ring_bounds (outer (piece_of sizes.now coords.now)) }
+pub fn piece_bounds(piece: RegionPiece) -> Option<Extents>
+    ensures { result ≡ ring_bounds (outer (rings_of piece.entry)) }
 {
-    let n = sizes[0];
-    ring_bounds(ring_at(coords, 0, n))
+    ring_bounds(piece.outer())
 }
 
-// The lattice about a deepest point, given the obstacles near its piece.
-fn field_at(
-    poi: Point,
-    sizes: &[usize],
-    coords: &[f64],
-    ctx: PackCtx,
-    near: &[f64],
-    rectangular: bool,
-    min_x: f64,
-    max_x: f64,
-    min_y: f64,
-    max_y: f64,
-) -> Field
-    requires { (0 < length sizes.now) × (sum sizes.now * 2 ≤ length coords.now) }
-    ensures { result ≡ field_at poi (piece_of sizes.now coords.now) ctx (rectangles near.now) rectangular min_x max_x min_y max_y }
+// The deepest point, moved off the obstacles near its piece.
+fn anchor_of(poi: Point, site: Site) -> Point
+    ensures { result ≡ anchor_of poi (rings_of site.entry.piece) (rectangles site.entry.near.now) site.entry.margin.least }
 {
-    let anchor = anchor_of(poi, sizes, coords, near, ctx.inset());
-    let lattice = Lattice {
-        spacing: ctx.spacing(),
-        rectangular,
-    };
+    if site.near.len() / 4 == 0 {
+        return poi;
+    }
+    escape_obstacles(poi, site.piece, site.near, site.margin.least)
+}
+
+// The lattice about a deepest point.
+fn field_at(poi: Point, site: Site, ctx: PackCtx, rectangular: bool, extents: Extents) -> Field
+    requires { site.margin.least ≡ inset ctx }
+    ensures { result ≡ field_at poi (rings_of site.entry.piece) ctx (rectangles site.entry.near.now) rectangular extents }
+{
     Field {
-        anchor,
-        lattice,
-        min_x,
-        max_x,
-        min_y,
-        max_y,
+        anchor: anchor_of(poi, site),
+        lattice: Lattice {
+            spacing: ctx.spacing(),
+            rectangular,
+        },
+        extents,
+    }
+}
+
+// What the places of a piece are judged by.
+fn site_of<'a>(
+    piece: RegionPiece<'a>,
+    ctx: PackCtx,
+    obstacles: &[f64],
+    extents: Extents,
+    near: &'a mut [f64],
+) -> Site<'a>
+    requires { length obstacles.now ≤ length near.old }
+    ensures rings { rings_of result.piece ≡ rings_of piece.entry }
+    ensures least { result.margin.least ≡ inset ctx }
+    ensures near { rectangles result.near.now ≡ near_of ctx (rectangles obstacles.now) extents }
+{
+    let inset = ctx.inset();
+    Site {
+        piece,
+        margin: Margin::of(inset),
+        near: near_obstacles(obstacles, inset, extents, near),
     }
 }
 
 // Writes the spots of a piece whose deepest point is `poi` to the front of `spots` and answers how many they are.
 pub fn pack_uniform_piece(
     poi: Point,
-    sizes: &[usize],
-    coords: &[f64],
+    piece: RegionPiece,
     n: usize,
     ctx: PackCtx,
     obstacles: &[f64],
@@ -84,36 +87,17 @@ pub fn pack_uniform_piece(
     blocked: &mut [f64],
     spots: &mut [f64],
 ) -> usize
-    requires { (0 < length sizes.now) × (sum sizes.now * 2 ≤ length coords.now) × (0 < n) × (ctx.mode.spread ≡ true) × (length obstacles.now ≤ length near.old) × (n * 2 ≤ length blocked.old) × (n * 2 ≤ length spots.old) }
-    ensures { (result ≡ length (pack_around poi (piece_of sizes.now coords.now) n ctx (rectangles obstacles.now) rectangular)) × (spots.new ≡ written (flat (pack_around poi (piece_of sizes.now coords.now) n ctx (rectangles obstacles.now) rectangular)) spots.old) }
+    requires { (0 < n) × (ctx.mode.spread ≡ true) × (length obstacles.now ≤ length near.old) × (n * 2 ≤ length blocked.old) × (n * 2 ≤ length spots.old) }
+    ensures { (result ≡ length (pack_around poi (rings_of piece.entry) n ctx (rectangles obstacles.now) rectangular)) × (spots.new ≡ written (flat (pack_around poi (rings_of piece.entry) n ctx (rectangles obstacles.now) rectangular)) spots.old) }
 {
-    let bounds = piece_bounds(sizes, coords);
-    let Bounds::Box(min_x, max_x, min_y, max_y) = bounds else {
+    let Some(extents) = piece_bounds(piece) else {
         return 0;
     };
-    let inset = ctx.inset();
-    let m = near_obstacles(obstacles, inset, min_x, max_x, min_y, max_y, &mut near[..]);
-    let e = m * 4;
-    let local = &near[..e];
-    let field = field_at(
-        poi,
-        sizes,
-        coords,
-        ctx,
-        local,
-        rectangular,
-        min_x,
-        max_x,
-        min_y,
-        max_y,
-    );
-    let margin = Margin::of(inset);
+    let site = site_of(piece, ctx, obstacles, extents, &mut near[..]);
+    let field = field_at(poi, site, ctx, rectangular, extents);
     pack_field(
         field,
-        sizes,
-        coords,
-        margin,
-        local,
+        site,
         n,
         ctx.mode.strict_obstacles,
         &mut blocked[..],
@@ -124,37 +108,20 @@ pub fn pack_uniform_piece(
 // How many spots a trial packing of a piece has.
 pub fn probe_uniform_piece(
     poi: Point,
-    sizes: &[usize],
-    coords: &[f64],
+    piece: RegionPiece,
     n: usize,
     ctx: PackCtx,
     obstacles: &[f64],
     rectangular: bool,
     near: &mut [f64],
 ) -> usize
-    requires { (0 < length sizes.now) × (sum sizes.now * 2 ≤ length coords.now) × (0 < n) × (ctx.mode.spread ≡ false) × (ctx.mode.strict_obstacles ≡ true) × (length obstacles.now ≤ length near.old) }
-    ensures { result ≡ length (pack_around poi (piece_of sizes.now coords.now) n ctx (rectangles obstacles.now) rectangular) }
+    requires { (0 < n) × (ctx.mode.spread ≡ false) × (ctx.mode.strict_obstacles ≡ true) × (length obstacles.now ≤ length near.old) }
+    ensures { result ≡ length (pack_around poi (rings_of piece.entry) n ctx (rectangles obstacles.now) rectangular) }
 {
-    let bounds = piece_bounds(sizes, coords);
-    let Bounds::Box(min_x, max_x, min_y, max_y) = bounds else {
+    let Some(extents) = piece_bounds(piece) else {
         return 0;
     };
-    let inset = ctx.inset();
-    let m = near_obstacles(obstacles, inset, min_x, max_x, min_y, max_y, &mut near[..]);
-    let e = m * 4;
-    let local = &near[..e];
-    let field = field_at(
-        poi,
-        sizes,
-        coords,
-        ctx,
-        local,
-        rectangular,
-        min_x,
-        max_x,
-        min_y,
-        max_y,
-    );
-    let margin = Margin::of(inset);
-    lesser(n, count_cells(field, sizes, coords, margin, local, n).free)
+    let site = site_of(piece, ctx, obstacles, extents, &mut near[..]);
+    let field = field_at(poi, site, ctx, rectangular, extents);
+    n.min(count_cells(field, site, n).free)
 }

@@ -1,7 +1,7 @@
 -- Comparisons that order their values in a line: of numbers, of what a function makes of a value, turned round, and one after another.
 -- Rests on the kit's clauses of `compare`.
-use Rattle.std.specs.Prelude.{◌≡◌, refl, Bool, true, false, ◌⊎◌}
-use Rattle.std.proofs.Common.{sym, ap, ◌∙◌, subst, inl, inr, arith}
+use Rattle.std.specs.Prelude.{◌≡◌, ◌≢◌, refl, Bool, true, false, nat_lt, ◌⊎◌}
+use Rattle.std.proofs.Common.{sym, ap, ◌∙◌, subst, inl, inr, arith, lt-ltb, le-ltb}
 use Prim.Native.Nat.compare
 use Prim.Native.Nat.{ℕ, zero, suc, ◌≤◌, ◌<◌, compare, Ordering}
 
@@ -66,6 +66,32 @@ compared m n o h = decided m n (compare m n) o (says m n) h
 -- and back
 pub told : (m n : ℕ) (o : Ordering) → compare m n ≡ o → Says m n o
 told m n o e = subst (λ (p : Ordering). Says m n p) e (says m n)
+
+differs : (m n : ℕ) (o u : Ordering) → Says m n u → (m ≢ n) → is_lt (u then_by o) ≡ nat_lt m n
+differs m n o Ordering.lt s h = rw (lt-ltb m n s)
+differs m n o Ordering.eq s h = absurd (h s)
+differs m n o Ordering.gt s h = rw (le-ltb m n (omega arith))
+
+same : (m n : ℕ) (o u : Ordering) → Says m n u → m ≡ n → is_lt (u then_by o) ≡ is_lt o
+same m n o Ordering.lt s h = absurd (omega arith)
+same m n o Ordering.eq s h = refl
+same m n o Ordering.gt s h = absurd (omega arith)
+
+only : (m n : ℕ) (u : Ordering) → Says m n u → is_lt u ≡ nat_lt m n
+only m n Ordering.lt s = rw (lt-ltb m n s)
+only m n Ordering.eq s = rw (le-ltb m n (omega arith))
+only m n Ordering.gt s = rw (le-ltb m n (omega arith))
+
+-- two numbers that differ decide, two that are equal leave it to what comes after them
+module _ (m n : ℕ) where
+  pub lt_differs : (o : Ordering) → (m ≢ n) → is_lt (compare m n then_by o) ≡ nat_lt m n
+  lt_differs o h = differs m n o (compare m n) (says m n) h
+
+  pub lt_same : (o : Ordering) → m ≡ n → is_lt (compare m n then_by o) ≡ is_lt o
+  lt_same o h = same m n o (compare m n) (says m n) h
+
+  pub lt_only : is_lt (compare m n) ≡ nat_lt m n
+  lt_only = only m n (compare m n) (says m n)
 
 split : (m n : ℕ) (o : Ordering) → Says m n o → (m < n) ⊎ (n ≤ m)
 split m n Ordering.lt h = inl h

@@ -6,7 +6,8 @@ use Rattle.std.proofs.Common.{sym, ◌∙◌}
 use mathlib.Core.List.{List, [], ◌∷◌}
 use Prim.Native.Nat.{ℕ, zero, suc, ◌+◌, ◌-◌, ◌≤◌, min, compare, Ordering}
 use native.Mathlib.Omega.{arith}
-use Rattle.laws.specs.Orders.{Linear, Says, says, reverse, turned_to, level_right}
+use mir.Val.{bool_byte}
+use Rattle.laws.specs.Orders.{is_lt, Linear, Says, says, reverse, turned_to, level_right}
 use Rattle.laws.specs.Sort.{place, insert, sort_by}
 
 -- the elements' weights together
@@ -24,6 +25,11 @@ abbrev pub if_eq : Ordering → ℕ
 if_eq Ordering.lt = 0
 if_eq Ordering.eq = 1
 if_eq Ordering.gt = 0
+
+pub flag_lt : (o : Ordering) → bool_byte (is_lt o) ≡ if_lt o
+flag_lt Ordering.lt = refl
+flag_lt Ordering.eq = refl
+flag_lt Ordering.gt = refl
 
 pub if_lt_le : (o : Ordering) → if_lt o ≤ 1
 if_lt_le Ordering.lt = omega arith

@@ -1,9 +1,20 @@
 -- The answer of the call: its number for each case, and what is kept by a sheet that is given. Definitions only.
-use Rattle.std.specs.Prelude.{cond, List, [], ◌∷◌, ℕ, eqb}
+use Rattle.std.specs.Prelude.{cond, List, [], ◌∷◌, ℕ, eqb, Result, Ok, Err}
 use Rattle.job.specs.Plan.{Plan}
 use Rattle.claims.specs.Claim.{SheetKept}
-use Rattle.marks.specs.declared.call.Planned.{Planned}
-use Rattle.marks.specs.declared.call.Planned.TheVariants.{Sheet, Refused}
+use Rattle.format.specs.declared.refusal.Refusal.{Refusal}
+use Rattle.format.specs.Refusals.{number_of}
+use Rattle.plan.specs.declared.answer.Planned.{Planned as Given}
+
+-- a sheet that is given: its length, and the trials made for the radius, free of obstacles and with them; or the number of the refusal
+pub data Planned : Type 0 where
+  Sheet : ℕ → ℕ → ℕ → Planned
+  Refused : ℕ → Planned
+
+-- what the call returns: the number and the values of each case
+abbrev pub answered : Result Given Refusal → Planned
+answered (Ok given) = Sheet given.length given.free_trials given.obstacle_trials
+answered (Err refusal) = Refused (number_of refusal)
 
 -- a sheet is given where the number is 0
 unfoldable pub planned : Plan → Planned

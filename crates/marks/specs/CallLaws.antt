@@ -1,7 +1,7 @@
 -- The call's answer by its number, and how large its numbers are.
 -- Rests on the laws of the trials and of the sheet's length, and for the latter on that of every sheet.
-use Rattle.std.specs.Prelude.{◌≡◌, refl, Bool, true, false, cond, List, ℕ, ◌≤◌, eqb, length, Float}
-use Rattle.std.proofs.Common.{arith, eqb-true, eq-eqb, ne_eqb}
+use Rattle.std.specs.Prelude.{◌≡◌, refl, Bool, true, false, cond, List, ℕ, ◌≤◌, eqb, length, Result, Ok, Err, Float}
+use Rattle.std.proofs.Common.{sym, ap, ◌∙◌, arith, eqb-true, eq-eqb, ne_eqb}
 use Rattle.format.specs.RowLaws.{both}
 use Rattle.job.specs.Head.{lent_fault, work_fault}
 use Rattle.job.specs.Job.{job_of, items_fault}
@@ -9,11 +9,14 @@ use Rattle.job.proofs.Known.{job_known}
 use Rattle.job.specs.Plan.{number_of, placements_of, Plan, given, refused, plan_of}
 use Rattle.claims.specs.Claim.{SheetKept}
 use Rattle.claims.proofs.EverySheet.{every_sheet_kept}
-use Rattle.marks.specs.Call.{planned}
+use Rattle.marks.specs.Call.{Planned, Sheet, Refused, Kept, answered, planned}
+use Rattle.format.specs.declared.refusal.Refusal.{Refusal}
+use Rattle.format.specs.RefusalLaws.{numbered}
+use Rattle.plan.specs.declared.answer.Planned.{Planned as Given}
+use Rattle.plan.specs.Answer.{Answer, answer_in}
+use Rattle.plan.specs.Called.{answer_of}
 use Rattle.marks.specs.Room.{sheet_short, room_small}
 use Rattle.marks.specs.Trials.{few_trials}
-use Rattle.marks.specs.declared.call.Planned.{Planned}
-use Rattle.marks.specs.declared.call.Planned.TheVariants.{Sheet, Refused}
 
 pub planned_sheet : (plan : Plan) → plan.number ≡ 0 → planned plan ≡ Sheet plan.length plan.free_trials plan.obstacle_trials
 unfolding planned
@@ -22,6 +25,19 @@ planned_sheet plan e = rw (eq-eqb plan.number 0 e)
 pub planned_refused : (plan : Plan) → (plan.number ≡ 0 → ⊥) → planned plan ≡ Refused plan.number
 unfolding planned
 planned_refused plan e = rw (ne_eqb plan.number 0 e)
+
+-- what the call returns is the answer by its number
+pub answered_is : (r : Result Given Refusal) (plan : Plan) → answer_in r ≡ answer_of plan → answered r ≡ planned plan
+answered_is (Ok given) plan e =
+    rw (planned_sheet plan (sym (ap (λ (x : Answer). x.number) e)))
+    (rw (ap (λ (x : Answer). x.length) e, ap (λ (x : Answer). x.free_trials) e, ap (λ (x : Answer). x.obstacle_trials) e))
+answered_is (Err refusal) plan e =
+    let n = ap (λ (x : Answer). x.number) e in
+    rw (planned_refused plan (λ z. numbered refusal (n ∙ z)), n)
+
+pub kept_is : (r : Result Given Refusal) (plan : Plan) (job sheet : List ℕ) → answer_in r ≡ answer_of plan → (plan.number ≡ 0 → SheetKept job sheet) → Kept (answered r) job sheet
+kept_is (Ok given) plan job sheet e h = h (sym (ap (λ (x : Answer). x.number) e))
+kept_is (Err refusal) plan job sheet e h = tt
 
 -- at most 34,383 bytes and 25 trials of each kind
 abbrev pub Small : Planned → Type 0

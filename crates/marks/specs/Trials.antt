@@ -1,19 +1,16 @@
 -- A radius search makes at most 25 trials, and so does the call, free of obstacles and with them.
 -- Rests on the definition of the search: one trial, and at most 24 further ones.
-use Rattle.std.specs.Prelude.{Bool, cond, ◌&&◌, List, [], eqb, length, Float}
+use Rattle.std.specs.Prelude.{Bool, cond, ◌&&◌, List, [], eqb, length, Float, None, Some, Option}
 use Rattle.std.proofs.Math.Bool.{true, false}
 use Prim.Native.Nat.{ℕ, zero, suc, ◌+◌, ◌≤◌}
 use native.Mathlib.Omega.{arith}
 use Rattle.float.specs.Ops.{◌+ᶠ◌, ◌-ᶠ◌, ◌*ᶠ◌, ◌≤ᶠ◌, ◌>ᶠ◌, 0ᶠ, ½ᶠ}
 use Rattle.glyphs.specs.declared.rect.Rectangle.{Rectangle}
 use Rattle.glyphs.specs.Rect.{is_finite, rectangles}
-use Rattle.discs.specs.declared.ceiling.Chosen.{Chosen}
-use Rattle.discs.specs.declared.ceiling.Chosen.TheVariants.{None, Some}
+use Rattle.discs.specs.declared.radius.Size.{Size}
 use Rattle.discs.specs.declared.options.Radius.{Radius}
 use Rattle.discs.specs.declared.options.Radius.TheVariants.{Auto, Stated}
 use Rattle.discs.specs.declared.radius.Search.{Search}
-use Rattle.discs.specs.declared.radius.Sizing.{Sizing}
-use Rattle.discs.specs.declared.radius.Sizing.TheVariants.{Unplaced, At}
 use Rattle.relax.specs.declared.Spreading.{Spreading}
 use Rattle.lattice.specs.Uniform.{1e-3ᶠ}
 use Rattle.discs.specs.declared.options.GlyphOptions.{GlyphOptions}
@@ -26,7 +23,7 @@ use Rattle.job.specs.Plan.{room, placements_of}
 
 -- ---- one search
 module _ (fits : Float → Bool) (r-hi : Float) where
-  halve_few : (turns : ℕ) (lo hi : Float) (best : Chosen) (made : ℕ) → (halve fits r-hi turns lo hi best made).trials ≤ made + turns
+  halve_few : (turns : ℕ) (lo hi : Float) (best : Option Float) (made : ℕ) → (halve fits r-hi turns lo hi best made).trials ≤ made + turns
   unfolding halve
   halve_few zero lo hi best made = omega arith
   halve_few (suc turns) lo hi best made =
@@ -54,34 +51,34 @@ pub record Few (free-trials obstacle-trials : ℕ) : Type 0 where
 no_trials : Few 0 0
 no_trials = record { free = omega arith; walled = omega arith }
 
-abbrev FewIn : Sizing → Type 0
-FewIn Unplaced = Unit {0}
-FewIn (At size) = Few size.free_trials size.obstacle_trials
+abbrev FewIn : Option Size → Type 0
+FewIn None = Unit {0}
+FewIn (Some size) = Few size.free_trials size.obstacle_trials
 
 module _ (fits : List Rectangle → Float → Bool) (obstacles : List Rectangle) where
-  under_few : (r-hi : Float) → FewIn (At (size_under fits obstacles r-hi))
+  under_few : (r-hi : Float) → FewIn (Some (size_under fits obstacles r-hi))
   unfolding size_under
   under_few r-hi = go (eqb (length obstacles) 0) _ _
     where
-      go : (none : Bool) (r s : Float) → FewIn (At (cond none (record { radius = r; free_trials = (auto_radius (fits []) r-hi).trials; obstacle_trials = 0 }) (record { radius = s; free_trials = (auto_radius (fits []) r-hi).trials; obstacle_trials = (auto_radius (fits obstacles) r-hi).trials })))
+      go : (none : Bool) (r s : Float) → FewIn (Some (cond none (record { radius = r; free_trials = (auto_radius (fits []) r-hi).trials; obstacle_trials = 0 }) (record { radius = s; free_trials = (auto_radius (fits []) r-hi).trials; obstacle_trials = (auto_radius (fits obstacles) r-hi).trials })))
       go true r s = record { free = auto_few (fits []) r-hi; walled = omega arith }
       go false r s = record { free = auto_few (fits []) r-hi; walled = auto_few (fits obstacles) r-hi }
 
-  size_few : (radius : Radius) (ceiling : Chosen) → FewIn (size_for fits obstacles radius ceiling)
+  size_few : (radius : Radius) (ceiling : Option Float) → FewIn (size_for fits obstacles radius ceiling)
   unfolding size_for
   size_few (Stated r) ceiling = go (r >ᶠ 0ᶠ && is_finite r)
     where
-      go : (t : Bool) → FewIn (cond t (At (record { radius = r; free_trials = 0; obstacle_trials = 0 })) Unplaced)
+      go : (t : Bool) → FewIn (cond t (Some (record { radius = r; free_trials = 0; obstacle_trials = 0 })) None)
       go true = no_trials
       go false = tt
   size_few Auto None = tt
   size_few Auto (Some r-hi) = under_few r-hi
 
 module _ (room : ℕ) (numbers : Spreading) (options : GlyphOptions) (given : List Rectangle) (zones : List Zone) where
-  pack_few : (size : Sizing) → FewIn size → Few (pack_at room numbers options given zones size).free_trials (pack_at room numbers options given zones size).obstacle_trials
+  pack_few : (size : Option Size) → FewIn size → Few (pack_at room numbers options given zones size).free_trials (pack_at room numbers options given zones size).obstacle_trials
   unfolding pack_at
-  pack_few Unplaced h = no_trials
-  pack_few (At size) h = h
+  pack_few None h = no_trials
+  pack_few (Some size) h = h
 
   place_few : Few (place_glyphs room numbers options given zones).free_trials (place_glyphs room numbers options given zones).obstacle_trials
   unfolding place_glyphs sizing

@@ -7,35 +7,6 @@ ghost use Rattle.marks.specs.Call.{Kept, planned, plan_length, plan_numbers};
 ghost use Rattle.marks.specs.Leaves.{inverse_answer, inverse_number, inverse_value, quotas_answer, quotas_number, quotas_after};
 
 use crate::call::Planned;
-use crate::leaves::{Inverse, Sharing};
-
-fn inverse_number(a: Inverse) -> u8
-    ensures { result ≡ inverse_number a }
-{
-    match a {
-        Inverse::Value(_) => 0,
-        Inverse::BadBase => 17,
-    }
-}
-
-fn inverse_value(a: Inverse) -> f64
-    ensures { result ≡ inverse_value a }
-{
-    match a {
-        Inverse::Value(v) => v,
-        Inverse::BadBase => 0.0,
-    }
-}
-
-fn quotas_number(a: Sharing) -> u8
-    ensures { result ≡ quotas_number a }
-{
-    match a {
-        Sharing::Written => 0,
-        Sharing::BadShares => 18,
-        Sharing::NoRoom => 19,
-    }
-}
 
 pub fn marks_root(x: f64) -> f64
     ensures { result ≡ sqrt x }
@@ -53,16 +24,26 @@ pub fn marks_radical_inverse(index: u64, base: u64, number: &mut u8) -> f64
     ensures value { result ≡ inverse_value (inverse_answer index base) }
     ensures lent { number.new ≡ inverse_number (inverse_answer index base) }
 {
-    let answer = crate::leaves::radical_inverse(index, base);
-    *number = inverse_number(answer);
-    inverse_value(answer)
+    match crate::leaves::radical_inverse(index, base) {
+        Ok(value) => {
+            *number = 0;
+            value
+        }
+        Err(refusal) => {
+            *number = u8::from(refusal);
+            0.0
+        }
+    }
 }
 
 pub fn marks_quotas(count: u64, weights: &[f64], quotas: &mut [u64]) -> u8
     ensures answer { result ≡ quotas_number (quotas_answer count weights.now (length quotas.old)) }
     ensures lent { quotas.new ≡ quotas_after count weights.now quotas.old }
 {
-    quotas_number(crate::leaves::quotas(count, weights, quotas))
+    match crate::leaves::quotas(count, weights, quotas) {
+        Ok(()) => 0,
+        Err(refusal) => u8::from(refusal),
+    }
 }
 
 pub fn marks_plan(
@@ -80,16 +61,18 @@ pub fn marks_plan(
     ensures kept { Kept (planned (plan_of job.now first.old second.old sheet.old)) job.now sheet.new }
 {
     match crate::call::plan(job, first, second, sheet) {
-        Planned::Sheet {
-            length,
-            free_trials,
-            obstacle_trials,
-        } => {
+        Ok(
+            Planned {
+                length,
+                free_trials,
+                obstacle_trials,
+            },
+        ) => {
             *answer = [0, free_trials as u32, obstacle_trials as u32];
             length as u32
         }
-        Planned::Refused(number) => {
-            *answer = [number as u32, 0, 0];
+        Err(refusal) => {
+            *answer = [u8::from(refusal) as u32, 0, 0];
             0
         }
     }

@@ -2,22 +2,25 @@
 ghost use Rattle.std.specs.Prelude.{◌≡◌, length};
 ghost use Rattle.float.specs.Order.{sqrt};
 ghost use Rattle.glyphs.specs.Hash.{fnv1a};
-ghost use Rattle.marks.specs.Leaves.{inverse_answer, any_below, quotas_answer, quotas_after};
+ghost use Rattle.marks.specs.Leaves.{number_of, inverse_answer, any_below, quotas_answer, quotas_after};
 
-// The radical inverse, or that the base is outside 2..65,536.
-#[derive(Clone, Copy)]
-pub enum Inverse {
-    Value(f64),
-    BadBase,
+// The refusals of the radical inverse and the quotas by their published numbers.
+#[derive(Clone, Copy, Debug, PartialEq, Eq)]
+pub enum Refusal {
+    // a base outside 2..65,536
+    Base = 17,
+    // a count over 2,000, over 16 weights or a weight below 0
+    Shares = 18,
+    // too few places for the quotas
+    Places = 19,
 }
 
-// Whether the quotas are written, or why not: a count over 2,000, over 16 weights or a weight below 0; or too
-// few places for them.
-#[derive(Clone, Copy)]
-pub enum Sharing {
-    Written,
-    BadShares,
-    NoRoom,
+impl From<Refusal> for u8 {
+    ghost from_gives = { λ refusal number. number ≡ number_of refusal };
+
+    fn from(refusal: Refusal) -> u8 {
+        refusal as u8
+    }
 }
 
 pub fn root(x: f64) -> f64
@@ -32,48 +35,34 @@ pub fn hash(bytes: &[u8]) -> u64
     glyphs::hash::fnv1a(bytes)
 }
 
-pub fn radical_inverse(index: u64, base: u64) -> Inverse
+pub fn radical_inverse(index: u64, base: u64) -> Result<f64, Refusal>
     ensures { result ≡ inverse_answer index base }
 {
-    if base < 2 {
-        return Inverse::BadBase;
+    let fits = (2..=65536).contains(&base);
+    if !fits {
+        return Err(Refusal::Base);
     }
-    if base > 65536 {
-        return Inverse::BadBase;
-    }
-    Inverse::Value(glyphs::halton::radical_inverse(index, base))
+    Ok(glyphs::halton::radical_inverse(index, base))
 }
 
 // Whether a weight is below 0.
 fn any_below(weights: &[f64]) -> bool
     ensures { result ≡ any_below weights.now }
 {
-    let mut i = 0;
-    while i < weights.len() {
-        if weights[i] < 0.0 {
-            return true;
-        }
-        i += 1;
-    }
-    false
+    weights.iter().any(|weight| *weight < 0.0)
 }
 
-pub fn quotas(count: u64, weights: &[f64], quotas: &mut [u64]) -> Sharing
+pub fn quotas(count: u64, weights: &[f64], quotas: &mut [u64]) -> Result<(), Refusal>
     ensures answer { result ≡ quotas_answer count weights.now (length quotas.old) }
     ensures lent { quotas.new ≡ quotas_after count weights.now quotas.old }
 {
-    if count > 2000 {
-        return Sharing::BadShares;
-    }
-    if weights.len() > 16 {
-        return Sharing::BadShares;
-    }
-    if any_below(weights) {
-        return Sharing::BadShares;
+    let too_many = count > 2000;
+    if too_many || weights.len() > 16 || any_below(weights) {
+        return Err(Refusal::Shares);
     }
     if quotas.len() < weights.len() {
-        return Sharing::NoRoom;
+        return Err(Refusal::Places);
     }
     glyphs::quotas::apportion(count, weights, quotas);
-    Sharing::Written
+    Ok(())
 }

@@ -3,28 +3,28 @@
 
 ghost use Rattle.std.specs.Prelude.{◌≤◌, length, IfOk};
 
-use marks::call::Planned;
+use marks::call::Refusal;
 use std::io::{self, Read, Write};
 
-// The line of a refusal by its number, 1 to 16.
-fn write_refusal<W: Write>(out: &mut W, number: u8) -> io::Result<()> {
-    match number {
-        1 => out.write_all(b"refused 1\n"),
-        2 => out.write_all(b"refused 2\n"),
-        3 => out.write_all(b"refused 3\n"),
-        4 => out.write_all(b"refused 4\n"),
-        5 => out.write_all(b"refused 5\n"),
-        6 => out.write_all(b"refused 6\n"),
-        7 => out.write_all(b"refused 7\n"),
-        8 => out.write_all(b"refused 8\n"),
-        9 => out.write_all(b"refused 9\n"),
-        10 => out.write_all(b"refused 10\n"),
-        11 => out.write_all(b"refused 11\n"),
-        12 => out.write_all(b"refused 12\n"),
-        13 => out.write_all(b"refused 13\n"),
-        14 => out.write_all(b"refused 14\n"),
-        15 => out.write_all(b"refused 15\n"),
-        _ => out.write_all(b"refused 16\n"),
+// The line of a refusal, by its number.
+fn write_refusal<W: Write>(out: &mut W, refusal: Refusal) -> io::Result<()> {
+    match refusal {
+        Refusal::JobLength => out.write_all(b"refused 1\n"),
+        Refusal::WorkLength => out.write_all(b"refused 2\n"),
+        Refusal::Version => out.write_all(b"refused 3\n"),
+        Refusal::HeadValue => out.write_all(b"refused 4\n"),
+        Refusal::NumberAfterKind => out.write_all(b"refused 5\n"),
+        Refusal::JobEnds => out.write_all(b"refused 6\n"),
+        Refusal::BytesLeftOver => out.write_all(b"refused 7\n"),
+        Refusal::Obstacle => out.write_all(b"refused 8\n"),
+        Refusal::Count => out.write_all(b"refused 9\n"),
+        Refusal::KeyByte => out.write_all(b"refused 10\n"),
+        Refusal::KeyOrder => out.write_all(b"refused 11\n"),
+        Refusal::MarkTotal => out.write_all(b"refused 12\n"),
+        Refusal::Vertex => out.write_all(b"refused 13\n"),
+        Refusal::SheetLength => out.write_all(b"refused 14\n"),
+        Refusal::SearchRoom => out.write_all(b"refused 15\n"),
+        Refusal::Ceiling => out.write_all(b"refused 16\n"),
     }
 }
 
@@ -35,16 +35,12 @@ fn write_plan<W: Write>(out: &mut W, job: &[u8]) -> io::Result<()> {
     let mut second = [0.0; 8000];
     let mut sheet = [0u8; 34383];
     match marks::call::plan(job, &mut first, &mut second, &mut sheet) {
-        Planned::Sheet {
-            length,
-            free_trials: _,
-            obstacle_trials: _,
-        } => out.write_all(&sheet[..length]),
-        Planned::Refused(number) => write_refusal(out, number),
+        Ok(planned) => out.write_all(&sheet[..planned.length]),
+        Err(refusal) => write_refusal(out, refusal),
     }
 }
 
-// Reads until the slice is full or the input ends.
+// Reads until the slice is full or the input ends. How many turns that takes is the input's: it gives what it has.
 fn read_full<R: Read>(input: &mut R, bytes: &mut [u8]) -> io::Result<usize>
     ensures { IfOk result (λ n. n ≤ length bytes.new) }
 {

@@ -1,105 +1,85 @@
 -- Laws of the call: what the reader hands on, which row answers, and what the lent slices hold after it.
 -- Rests on what the reader leaves being the job's, and on which numbers the rows refuse with.
-use Rattle.std.specs.Prelude.{ℕ, zero, suc, ◌+◌, ◌*◌, ◌<◌, ◌≤◌, ◌≡◌, true, false, List, [], length, take, drop, Float}
+use Rattle.std.specs.Prelude.{ℕ, zero, suc, ◌+◌, ◌<◌, ◌≤◌, ◌≡◌, true, false, List, [], ◌∷◌, length, take, drop, Float}
 use Rattle.std.proofs.Math.Path.{refl, sym}
 use Rattle.std.proofs.Common.{ap, subst, ◌∙◌, arith, take_at}
+use Rattle.std.proofs.lemmas.List.{append-nil}
 use borrow.Author.Tests.{ne_eqb, lt-leb, le-leb}
 use Rattle.laws.specs.Lists.{written}
 use Rattle.format.specs.Rows.{◌unless◌, ◌or_else◌}
+use Rattle.format.specs.declared.pieces.Pieces.{Pieces}
 use Rattle.format.specs.RowLaws.{row_fault, row_clear}
-use Rattle.discs.specs.declared.options.GlyphOptions.{GlyphOptions}
 use Rattle.sheet.specs.Sheet.{sheet_of}
 use Rattle.discs.specs.PlaceGlyphs.{Placements}
-use Rattle.discs.specs.Floor.{row_of}
-use Rattle.job.specs.declared.read.Reading.{Reading}
-use Rattle.job.specs.declared.read.Reading.TheVariants.{Refused, Read}
-use Rattle.job.specs.Head.{lent_fault, work_fault, obstacles}
-use Rattle.job.specs.HeadLaws.{length_obstacles}
-use Rattle.job.specs.Job.{Job, job_of, items_fault, reading_of, sheet_room, sheet_fault, rows_room}
-use Rattle.job.specs.Rows.{Fits, rows_are, room_is}
+use Rattle.discs.specs.declared.rows.Row.{Row}
+use Rattle.job.specs.declared.read.Items.{Items}
+use Rattle.job.specs.Head.{lent_fault, work_fault}
+use Rattle.job.specs.Job.{job_of, zones, items_fault, coords_of, sizes_of, rings_of, rows_of, sheet_room, sheet_fault, rows_room}
+use Rattle.laws.specs.Every.{Every}
+use Rattle.job.specs.Rows.{Fits, rows_fit, length_are, rows_are, room_is}
 use Rattle.job.proofs.Known.{job_known}
 use Rattle.job.specs.Steps.{ItemsRead}
 use Rattle.job.specs.Plan.{search_fault, ceiling_fault, number_of, placements_of, sheet_for, work_after, refused, given, plan_of}
-use Rattle.discs.specs.Region.{Zone}
-use Rattle.plan.specs.declared.answer.Answer.{Answer}
-use Rattle.plan.specs.Sized.{refused_by}
+use Rattle.plan.specs.Answer.{Answer, refused_by}
 use Rattle.plan.specs.Read.{zone_count, left_read}
 use Rattle.plan.specs.Called.{ReadIn, Answered, items_number, answer_of, given_by}
 use Rattle.plan.specs.Later.{is_early, lent_early, work_early, items_later}
-use Rattle.plan.specs.CallLaws.{HasRead, cleared, has_read, has_refused}
-
--- ---- refused by a number
-
-pub refused_with : (fault : ℕ) (job : Job) (r : Answer) (sheet : List ℕ) (number : ℕ) → number ≡ fault → (fault ≡ 0 → ⊥) → r ≡ refused_by number → Answered fault job r sheet sheet
-refused_with fault job r sheet number e h a = record { refused = λ _. (a ∙ ap refused_by e, refl); given = λ z. absurd (h z) }
+use Rattle.plan.specs.CallLaws.{cleared}
 
 -- ---- a job that was read
 
-module _
-    (s : List ℕ) (obs coords : List Float) (sizes rings rows : List ℕ) (reading : Reading) (options : GlyphOptions) (m n : ℕ) (obs' coords' : List Float) (sizes' rings' rows' : List ℕ)
-    (r : ItemsRead s obs coords sizes rings rows reading obs' coords' sizes' rings' rows') (known : reading ≡ Read options m n) where
-  read : HasRead s options m n
-  read = has_read s options m n (sym known ∙ r.is)
+written_none : {A : Type 0} (xs : List A) → written xs [] ≡ xs
+unfolding written
+written_none [] = refl
+written_none (x ∷ xs) = append-nil (x ∷ xs)
 
-  pub few_zones_lem : n ≤ 64
+module _ (s : List ℕ) (items : Items) (pillars : List Float) (pieces : Pieces) (rows rows' : List Row) (r : ItemsRead s items pillars pieces rows rows') (whole : items_fault s ≡ 0) where
+  pub few_zones_lem : items.zones ≤ 64
   unfolding job_of
-  few_zones_lem = omega (arith, read.count, zone_count s, (job_known s read.whole).few_zones)
+  few_zones_lem = omega (arith, r.put.count, zone_count s, (job_known s whole).few_zones)
 
-  pub few_pillars : m * 4 ≤ 256
-  unfolding job_of
-  few_pillars = omega (arith, read.pillars, length_obstacles s, (job_known s read.whole).few_obstacles)
+  rows_read : take items.zones rows' ≡ rows_of s
+  unfolding written
+  rows_read =
+      let long : length (rows_of s) ≡ items.zones = length_are s (zones s) (rows_of s) (rows_are s whole) ∙ zone_count s ∙ sym r.put.count in
+      rw r.put.row (take_at (rows_of s) (drop (length (rows_of s)) rows) items.zones long)
 
-  pub rows_fit : (z : ℕ) → z < n → Fits (row_of rows' z)
-  rows_fit z h =
-      let d : Zone = record { key = s; count = 0; pieces = [] } in
-      rw (r.read read.whole).row (rows_are s read.whole rows d z (omega (arith, read.count))).fits
+  pub rows_fit_lem : (length (take items.zones rows') ≤ 64) × Every Fits (take items.zones rows')
+  rows_fit_lem =
+      let few : length (rows_of s) ≤ 64 = omega (arith, length_are s (zones s) (rows_of s) (rows_are s whole), zone_count s, r.put.count, few_zones_lem) in
+      rw rows_read (few, rows_fit s (zones s) (rows_of s) (rows_are s whole))
 
-  room_read : 15 + rows_room n rows' ≡ sheet_room (job_of s)
-  room_read = rw ((r.read read.whole).row, read.count) (room_is s read.whole rows)
+  room_read : 15 + rows_room (take items.zones rows') ≡ sheet_room (job_of s)
+  room_read = rw rows_read (room_is s whole)
 
-  pillars_read : take (m * 4) obs' ≡ (job_of s).obstacles
-  unfolding job_of written
-  pillars_read = rw (r.obstacle read.whole) (take_at (obstacles s) (drop (length (obstacles s)) obs) (m * 4) (omega (arith, length_obstacles s, read.pillars)))
-
-  pub few_taken : length (take (m * 4) obs') ≤ 256
-  few_taken = rw pillars_read (job_known s read.whole).few_obstacles
-
-  pub read_in : ReadIn s options (take (m * 4) obs') n rows' rings' sizes' coords'
+  pub read_in : ReadIn s items.options pillars (take items.zones rows') pieces.rings.items pieces.sizes.items pieces.coords.items
   read_in =
-      let p = r.read read.whole in
+      let p = r.put in
+      let zs = zones s in
       record {
-        whole = read.whole;
-        choices = unfold job_of in read.choices;
-        pillars = pillars_read;
-        count = unfold job_of in read.count ∙ sym (zone_count s);
-        left = unfold job_of in rw (p.row, p.counted, p.sized, p.coords) (left_read s read.whole rows rings sizes coords);
+        whole = whole;
+        choices = unfold job_of in r.choices;
+        pillars = unfold job_of in r.pillar;
+        left = unfold job_of in rw (rows_read, p.rings ∙ sym (written_none (rings_of zs)), p.sizes ∙ sym (written_none (sizes_of zs)), p.coords ∙ sym (written_none (coords_of zs))) (left_read s whole [] [] []);
       }
 
   -- the sheet does not fit
-  pub lacks_room : (room sheet : ℕ) → room ≡ 15 + rows_room n rows' → sheet < room → items_number s sheet ≡ 14
-  lacks_room room sheet e h = sym (row_clear (items_fault s) (items_fault s) _ refl read.whole (row_fault 14 (sheet_fault (job_of s) sheet) _ (unfold sheet_fault ◌unless◌ in rw (lt-leb (sheet_room (job_of s)) sheet (omega (arith, e, room_read)))) (λ (z : 14 ≡ 0). omega arith) refl))
+  lacks_room : (room sheet : ℕ) → room ≡ 15 + rows_room (take items.zones rows') → sheet < room → items_number s sheet ≡ 14
+  lacks_room room sheet e h = sym (row_clear (items_fault s) (items_fault s) _ refl whole (row_fault 14 (sheet_fault (job_of s) sheet) _ (unfold sheet_fault ◌unless◌ in rw (lt-leb (sheet_room (job_of s)) sheet (omega (arith, e, room_read)))) (λ (z : 14 ≡ 0). omega arith) refl))
 
   -- it does
-  pub has_room : (room sheet : ℕ) → room ≡ 15 + rows_room n rows' → room ≤ sheet → items_number s sheet ≡ search_fault (job_of s) or_else ceiling_fault (job_of s)
-  has_room room sheet e h = sym (row_clear (items_fault s) (items_fault s) _ refl read.whole (row_clear 0 (sheet_fault (job_of s) sheet) _ (unfold sheet_fault ◌unless◌ in rw (le-leb (sheet_room (job_of s)) sheet (omega (arith, e, room_read)))) refl refl))
+  has_room : (room sheet : ℕ) → room ≡ 15 + rows_room (take items.zones rows') → room ≤ sheet → items_number s sheet ≡ search_fault (job_of s) or_else ceiling_fault (job_of s)
+  has_room room sheet e h = sym (row_clear (items_fault s) (items_fault s) _ refl whole (row_clear 0 (sheet_fault (job_of s) sheet) _ (unfold sheet_fault ◌unless◌ in rw (le-leb (sheet_room (job_of s)) sheet (omega (arith, e, room_read)))) refl refl))
 
-  pub short_answered : (room : ℕ) (answer : Answer) (sheet : List ℕ) → room ≡ 15 + rows_room n rows' → length sheet < room → answer ≡ refused_by 14 → Answered (items_number s (length sheet)) (job_of s) answer sheet sheet
-  short_answered room answer sheet e h a =
+  pub short_answered : (room : ℕ) (sheet : List ℕ) → room ≡ 15 + rows_room (take items.zones rows') → length sheet < room → Answered (items_number s (length sheet)) (job_of s) (refused_by 14) sheet sheet
+  short_answered room sheet e h =
       let f = lacks_room room (length sheet) e h in
-      refused_with (items_number s (length sheet)) (job_of s) answer sheet 14 (sym f) (λ (z : items_number s (length sheet) ≡ 0). omega (arith, sym f ∙ z)) a
+      record { refused = λ _. (ap refused_by (sym f), refl); given = λ (z : items_number s (length sheet) ≡ 0). absurd (omega (arith, sym f ∙ z)) }
 
   pub zones_answered :
-      (room : ℕ) (answer : Answer) (sheet sheet' : List ℕ) → room ≡ 15 + rows_room n rows' → room ≤ length sheet
+      (room : ℕ) (answer : Answer) (sheet sheet' : List ℕ) → room ≡ 15 + rows_room (take items.zones rows') → room ≤ length sheet
       → Answered (search_fault (job_of s) or_else ceiling_fault (job_of s)) (job_of s) answer sheet sheet' → Answered (items_number s (length sheet)) (job_of s) answer sheet sheet'
   zones_answered room answer sheet sheet' e h a = subst (λ (x : ℕ). Answered x (job_of s) answer sheet sheet') (sym (has_room room (length sheet) e h)) a
-
--- ---- the reader refused
-
-pub items_refused : (s : List ℕ) (number : ℕ) (r : Answer) (sheet : List ℕ) → Refused number ≡ reading_of s → r ≡ refused_by number → Answered (items_number s (length sheet)) (job_of s) r sheet sheet
-items_refused s number r sheet e a =
-    let h = has_refused s number e in
-    let f : items_fault s ≡ items_number s (length sheet) = row_fault (items_fault s) (items_fault s) _ refl h.1 refl in
-    refused_with (items_number s (length sheet)) (job_of s) r sheet number (h.0 ∙ f) (λ z. h.1 (f ∙ z)) a
 
 module _ (s : List ℕ) (first second : List Float) (sheet : List ℕ) where
   -- what the call answers, and what it leaves

@@ -1,6 +1,6 @@
 -- A job that was read into flat slices is answered as the definition says, from what each step of the call ensures: the quotas put, the searches made, and the sheet planned.
 -- Rests on what is put beside the zones being theirs, and on the ceiling, the size and the sheet being the job's.
-use Rattle.std.specs.Prelude.{ℕ, ◌*◌, ◌≤◌, ◌≡◌, refl, Bool, true, false, List, length, Float}
+use Rattle.std.specs.Prelude.{ℕ, ◌≤◌, ◌≡◌, refl, Bool, true, false, List, length, Float, Option}
 use Rattle.std.proofs.Common.{sym, ◌∙◌, arith}
 use Rattle.std.proofs.Math.Path.{ap}
 use Rattle.std.proofs.lemmas.List.Edits.{sets}
@@ -11,8 +11,10 @@ use Rattle.glyphs.specs.declared.rect.Rectangle.{Rectangle}
 use Rattle.format.specs.Rows.{◌or_else◌}
 use Rattle.format.specs.RowLaws.{row_true, row_false}
 use Rattle.sheet.specs.Sheet.{Sheet, sheet_of}
+use Rattle.deepest.specs.declared.search.Deepest.{Deepest}
+use Rattle.discs.specs.declared.rows.Row.{Row}
+use Rattle.discs.specs.declared.radius.Size.{Size}
 use Rattle.discs.specs.declared.options.GlyphOptions.{GlyphOptions}
-use Rattle.discs.specs.declared.radius.Sizing.{Sizing}
 use Rattle.discs.specs.Region.{Zone}
 use Rattle.discs.specs.Searches.{had_room}
 use Rattle.discs.specs.Floor.{EachRow, Floor, start, work_in}
@@ -20,11 +22,11 @@ use Rattle.job.specs.Job.{Job, job_of}
 use Rattle.job.specs.Known.{RadiusKnown}
 use Rattle.job.proofs.Known.{job_known}
 use Rattle.job.specs.Plan.{search_fault, ceiling_fault, low_fault}
-use Rattle.plan.specs.declared.answer.Answer.{Answer}
-use Rattle.plan.specs.Rows.{Readable, flat_rows, all_rows, shares_at, fits_at, threes_at}
+use Rattle.plan.specs.Answer.{Answer, refused_by}
+use Rattle.plan.specs.Rows.{Readable, flat_rows, all_rows, shares_at, fits_at, found_at}
 use Rattle.plan.specs.Found.{Searched}
 use Rattle.plan.specs.Placing.{placed_at, Fair}
-use Rattle.plan.specs.Sized.{ceiling_for, sizing_for, refused_by, answer_to, Planned}
+use Rattle.plan.specs.Sized.{ceiling_for, sizing_for, answer_to, SheetPlanned}
 use Rattle.plan.specs.Left.{Left, all_readable}
 use Rattle.plan.specs.Own.{found_of, Filled}
 use Rattle.plan.specs.Read.{search_fault_lem}
@@ -42,16 +44,16 @@ same_answer a b free free' walled walled' e f w = rw (e, f, w)
 -- ---- a job each of whose searches had room, planned over its slices
 
 module _
-    (s rows rings sizes : List ℕ) (coords : List Float) (shares : List ℕ) (deepest : List Float) (job : Job) (k : RadiusKnown job.options.radius) (room : Roomy job.options job.zones)
-    (l : Left s rows rings sizes coords job.zones 0 start) (f : Filled job.options shares deepest job.zones start) where
-  number_is : low_fault (ceiling_for job.options (work_in s (length job.zones) rows rings sizes coords shares deepest) job.options.radius) ≡ search_fault job or_else ceiling_fault job
+    (s : List ℕ) (rows : List Row) (rings sizes : List ℕ) (coords : List Float) (shares : List ℕ) (deepest : List Deepest) (job : Job) (k : RadiusKnown job.options.radius) (room : Roomy job.options job.zones)
+    (l : Left s rows rings sizes coords job.zones start) (f : Filled job.options shares deepest job.zones start) where
+  number_is : low_fault (ceiling_for job.options (work_in s rows rings sizes coords shares deepest) job.options.radius) ≡ search_fault job or_else ceiling_fault job
   number_is =
       rw (search_fault_lem job)
       (row_true (all (λ (zone : Zone). all had_room (found_of job.options zone)) job.zones) true 15 (ceiling_fault job) (sym room) refl (low_is s rows rings sizes coords shares deepest job k room l f))
 
   planned_job :
       (r : Answer) (sheet sheet' : List ℕ)
-      → Planned (low_fault (ceiling_for job.options (work_in s (length job.zones) rows rings sizes coords shares deepest) job.options.radius)) (sized s rows rings sizes coords shares deepest job k room l f) (put s rows rings sizes coords shares deepest job k room l f) r sheet sheet'
+      → SheetPlanned (low_fault (ceiling_for job.options (work_in s rows rings sizes coords shares deepest) job.options.radius)) (sized s rows rings sizes coords shares deepest job k room l f) (put s rows rings sizes coords shares deepest job k room l f) r sheet sheet'
       → Answered (search_fault job or_else ceiling_fault job) job r sheet sheet'
   planned_job r sheet sheet' p =
       let same = sheet_is s rows rings sizes coords shares deepest job k room l f in
@@ -67,21 +69,18 @@ module _
 -- ---- a job that was read in
 
 module _
-    (s : List ℕ) (options : GlyphOptions) (obstacles : List Float) (n : ℕ) (rows rings sizes : List ℕ) (coords : List Float)
-    (read : ReadIn s options obstacles n rows rings sizes coords) where
-  pub rows_readable : EachRow rows rings sizes (Readable rings sizes coords) n 0 start
-  rows_readable = rw read.count (all_readable s rows rings sizes coords (job_of s).zones 0 start read.left)
+    (s : List ℕ) (options : GlyphOptions) (obstacles : List Float) (rows : List Row) (rings sizes : List ℕ) (coords : List Float)
+    (read : ReadIn s options obstacles rows rings sizes coords) where
+  pub rows_readable : EachRow rings sizes (Readable rings sizes coords) rows start
+  rows_readable = all_readable s rows rings sizes coords (job_of s).zones start read.left
 
   -- its quotas are put, and its searches made
   module _
-      (shares₀ shares : List ℕ) (h : length rings ≤ length shares₀) (e : shares ≡ sets shares₀ 0 (flat_rows rows rings sizes (shares_at rings sizes coords) n 0 start))
-      (deepest₀ deepest : List Float) (i : length rings * 3 ≤ length deepest₀) (b : Bool)
-      (found : Searched 0 (all_rows rows rings sizes (fits_at rings sizes coords options shares) n 0 start) (flat_rows rows rings sizes (threes_at rings sizes coords options shares) n 0 start) b deepest₀ deepest) where
-    shared : shares ≡ sets shares₀ 0 (flat_rows rows rings sizes (shares_at rings sizes coords) (length (job_of s).zones) 0 start)
-    shared = rw read.count at e
-
+      (shares₀ shares : List ℕ) (h : length rings ≤ length shares₀) (e : shares ≡ sets shares₀ 0 (flat_rows rings sizes (shares_at rings sizes coords) rows start))
+      (deepest₀ deepest : List Deepest) (i : length rings ≤ length deepest₀) (b : Bool)
+      (found : Searched 0 (all_rows rings sizes (fits_at rings sizes coords options shares) rows start) (flat_rows rings sizes (found_at rings sizes coords options shares) rows start) b deepest₀ deepest) where
     fits_own : b ≡ all (λ (zone : Zone). all had_room (found_of (job_of s).options zone)) (job_of s).zones
-    fits_own = found.fits ∙ rw (read.count, read.choices) (fits_put (job_of s).options s rows rings sizes coords (job_of s).zones read.left shares₀ shares h shared)
+    fits_own = found.fits ∙ rw read.choices (fits_put (job_of s).options s rows rings sizes coords (job_of s).zones read.left shares₀ shares h e)
 
     -- row 15
     pub refused_search : b ≡ false → (r : Answer) → r ≡ refused_by 15 → (sheet : List ℕ) → Answered (search_fault (job_of s) or_else ceiling_fault (job_of s)) (job_of s) r sheet sheet
@@ -94,20 +93,20 @@ module _
 
     module _ (roomy : b ≡ true) where
       filled : Filled (job_of s).options shares deepest (job_of s).zones start
-      filled = filled_put (job_of s).options s rows rings sizes coords (job_of s).zones read.left shares₀ shares h shared deepest₀ deepest i (rw (read.count, read.choices) at (found.put roomy))
+      filled = filled_put (job_of s).options s rows rings sizes coords (job_of s).zones read.left shares₀ shares h e deepest₀ deepest i (rw read.choices at (found.put roomy))
 
-      pub zones_floor : n * 4 ≤ length rows → Floor s n rows rings sizes coords shares deepest
-      zones_floor long = rw read.count (floor_is (job_of s).options s rows rings sizes coords shares deepest (job_of s).zones read.left filled (rw read.count at long))
+      pub zones_floor : Floor s rows rings sizes coords shares deepest
+      zones_floor = floor_is (job_of s).options s rings sizes coords shares deepest rows (job_of s).zones read.left filled
 
-      pub zones_fair : (pillars : List Rectangle) (sizing : Sizing) → EachRow rows rings sizes (Fair sizing options pillars s rings sizes coords shares deepest) n 0 start
-      zones_fair pillars sizing = rw (read.count, read.choices) (all_fair (job_of s).options s rows rings sizes coords shares deepest sizing pillars (job_of s).zones 0 start read.left filled)
+      pub zones_fair : (pillars : List Rectangle) (sizing : Option Size) → EachRow rings sizes (Fair sizing options pillars s rings sizes coords shares deepest) rows start
+      zones_fair pillars sizing = rw read.choices (all_fair (job_of s).options s rings sizes coords shares deepest sizing pillars rows (job_of s).zones start read.left filled)
 
       -- row 16, and the sheet
       pub planned_zones :
           (pillars : List Rectangle) → pillars ≡ sanitize_obstacles (rectangles obstacles) → (r : Answer) (sheet sheet' : List ℕ)
-          → Planned (low_fault (ceiling_for options (work_in s n rows rings sizes coords shares deepest) options.radius)) (sizing_for options pillars (work_in s n rows rings sizes coords shares deepest))
-          (flat_rows rows rings sizes (placed_at (sizing_for options pillars (work_in s n rows rings sizes coords shares deepest)) options pillars s rings sizes coords shares deepest) n 0 start) r sheet sheet'
+          → SheetPlanned (low_fault (ceiling_for options (work_in s rows rings sizes coords shares deepest) options.radius)) (sizing_for options pillars (work_in s rows rings sizes coords shares deepest))
+          (flat_rows rings sizes (placed_at (sizing_for options pillars (work_in s rows rings sizes coords shares deepest)) options pillars s rings sizes coords shares deepest) rows start) r sheet sheet'
           → Answered (search_fault (job_of s) or_else ceiling_fault (job_of s)) (job_of s) r sheet sheet'
       planned_zones pillars same r sheet sheet' p =
           planned_job s rows rings sizes coords shares deepest (job_of s) (job_known s read.whole).options.radius (sym fits_own ∙ roomy) read.left filled r sheet sheet'
-          (rw (same, read.pillars, read.count, read.choices) at p)
+          (rw (same, read.pillars, read.choices) at p)

@@ -1,6 +1,6 @@
 -- What the code asks of the slices: the pieces, quotas and deepest points lie within them, and no zone is given more marks than it has.
 -- Rests on the sum of a zone's quotas, and on no packer placing more marks than it is asked for.
-use Rattle.std.specs.Prelude.{ℕ, ◌+◌, ◌*◌, ◌≤◌, ◌≡◌, refl, Bool, cond, ◌&&◌, ◌||◌, eqb, ltb, drop, Float}
+use Rattle.std.specs.Prelude.{ℕ, ◌+◌, ◌≤◌, ◌≡◌, refl, Bool, cond, ◌&&◌, ◌||◌, eqb, ltb, drop, Float, None, Some, Option}
 use Rattle.std.proofs.Math.Path.{sym}
 use Rattle.std.proofs.Common.{ap, ◌∙◌, length-take, length-drop}
 use Rattle.std.proofs.Math.Bool.{true, false, not}
@@ -14,8 +14,7 @@ use Rattle.laws.specs.Truth.{both_true}
 use Rattle.glyphs.specs.Bounds.{ring_bounds}
 use Rattle.glyphs.specs.Hash.{fnv1a}
 use Rattle.glyphs.specs.Stream.{seeded}
-use Rattle.glyphs.specs.declared.bounds.Bounds.{Bounds}
-use Rattle.glyphs.specs.declared.bounds.Bounds.TheVariants.{Box, Nothing as Unbounded}
+use Rattle.glyphs.specs.declared.bounds.Extents.{Extents}
 use Rattle.glyphs.specs.declared.options.GlyphArrangement.{GlyphArrangement}
 use Rattle.glyphs.specs.declared.options.GlyphArrangement.TheVariants.{Uniform, Rectangular, LowDiscrepancy, Random}
 use Rattle.glyphs.specs.declared.rect.Point.{Point}
@@ -35,17 +34,15 @@ use Rattle.lattice.specs.Uniform.{local_to, available, cells_at, spread_cells, p
 use Rattle.lattice.specs.declared.context.PackCtx.{PackCtx}
 use Rattle.scatter.specs.LowDiscrepancy.{lone_anchor, pack_within, pack_scatter}
 use Rattle.scatter.specs.Random.{Thrown, throws, throw_within, pack_random_piece}
-use Rattle.scatter.specs.declared.low.Anchor.{Anchor}
-use Rattle.scatter.specs.declared.low.Anchor.TheVariants.{Nowhere}
+use Rattle.discs.specs.declared.rows.Row.{Row}
+use Rattle.discs.specs.declared.radius.Size.{Size}
 use Rattle.discs.specs.declared.options.GlyphOptions.{GlyphOptions}
-use Rattle.discs.specs.declared.radius.Sizing.{Sizing}
-use Rattle.discs.specs.declared.radius.Sizing.TheVariants.{Unplaced, At}
 use Rattle.discs.specs.declared.rows.Offsets.{Offsets}
 use Rattle.discs.specs.Region.{Zone, quotas, pack_uniform_piece, pack_low_discrepancy_piece, placed_in}
 use Rattle.discs.specs.Radius.{context_at}
 use Rattle.discs.specs.PlaceGlyphs.{is_left_in, pack}
 use Rattle.discs.specs.Pieces.{pack_piece_from, pack_quota, pack_pieces_from}
-use Rattle.discs.specs.Floor.{row_of, row_is_left_in, past_row, pack_handed, start, EachRow, Packable, Floor}
+use Rattle.discs.specs.Floor.{row_is_left_in, past_row, pack_handed, start, EachRow, Packable, Floor}
 use Rattle.claims.specs.Counts.{taken_count, scattered_count, thrown_count}
 use Rattle.claims.specs.HandOut.{assigned_sum}
 use Rattle.claims.specs.HandOut as HandOut
@@ -53,16 +50,17 @@ use Rattle.claims.proofs.Portions.{zone_sum}
 use Rattle.plan.specs.Walk.{never}
 use Rattle.plan.specs.Rows.{past_piece}
 use Rattle.plan.specs.Placing.{place_for, Fair}
+use Rattle.job.specs.Rows.{AreRows}
 use Rattle.plan.specs.Left.{Left, own_row, own_readable, own_left_in, left_next}
-use Rattle.plan.specs.Own.{length_quotas, length_threes_of, Filled, own_of, own_shares, own_deepest, filled_next, handed_own}
+use Rattle.plan.specs.Own.{length_quotas, length_found_of, Filled, own_of, own_shares, own_deepest, filled_next, handed_own}
 
 -- ---- one piece
 
 module _ (piece : Piece) (n : ℕ) (ctx : PackCtx) (obstacles : List Rectangle) (spread : ctx.mode.spread ≡ true) where
-  spread_count : (rectangular : Bool) (near : List Rectangle) (anchor : Point) (b : Bounds) (at_min : HexCells) (honoring : Bool) → length (spread_cells piece n ctx rectangular near anchor b at_min honoring) ≤ n
+  spread_count : (rectangular : Bool) (near : List Rectangle) (anchor : Point) (b : Option Extents) (at_min : HexCells) (honoring : Bool) → length (spread_cells piece n ctx rectangular near anchor b at_min honoring) ≤ n
   unfolding spread_cells
-  spread_count rectangular near anchor Unbounded at_min honoring = taken_count at_min n anchor honoring
-  spread_count rectangular near anchor (Box min-x max-x min-y max-y) at_min honoring = taken_count _ n anchor honoring
+  spread_count rectangular near anchor None at_min honoring = taken_count at_min n anchor honoring
+  spread_count rectangular near anchor (Some bounds) at_min honoring = taken_count _ n anchor honoring
 
   lattice_count : (rectangular : Bool) (near : List Rectangle) (anchor : Point) → length (pack_lattice piece n ctx rectangular near anchor) ≤ n
   unfolding pack_lattice
@@ -85,12 +83,12 @@ module _ (piece : Piece) (n : ℕ) (ctx : PackCtx) (obstacles : List Rectangle) 
   uniform_count rectangular (Found x y clearance) =
       lattice_count rectangular (local_to piece obstacles (inset ctx)) (anchor_of (point x y) piece (local_to piece obstacles (inset ctx)) (inset ctx))
 
-  within_count : (anchor : Anchor) (b : Bounds) → length (pack_within b anchor piece n ctx obstacles) ≤ n
+  within_count : (anchor : Option Point) (b : Option Extents) → length (pack_within b anchor piece n ctx obstacles) ≤ n
   unfolding pack_within
-  within_count anchor Unbounded = omega arith
-  within_count anchor (Box min-x max-x min-y max-y) = scattered_count piece n ctx (local_to piece obstacles (inset ctx)) anchor min-x max-x min-y max-y
+  within_count anchor None = omega arith
+  within_count anchor (Some bounds) = scattered_count piece n ctx (local_to piece obstacles (inset ctx)) anchor bounds.min_x bounds.max_x bounds.min_y bounds.max_y
 
-  scatter_count : (anchor : Anchor) → length (pack_scatter anchor piece n ctx obstacles) ≤ n
+  scatter_count : (anchor : Option Point) → length (pack_scatter anchor piece n ctx obstacles) ≤ n
   unfolding pack_scatter
   scatter_count anchor = go (eqb n 0)
     where
@@ -100,23 +98,23 @@ module _ (piece : Piece) (n : ℕ) (ctx : PackCtx) (obstacles : List Rectangle) 
 
   low_count : (found : Deepest) → length (pack_low_discrepancy_piece found piece n ctx obstacles) ≤ n
   unfolding pack_low_discrepancy_piece
-  low_count Nothing = scatter_count Nowhere
-  low_count Full = scatter_count Nowhere
+  low_count Nothing = scatter_count None
+  low_count Full = scatter_count None
   low_count (Found x y clearance) = scatter_count (lone_anchor (point x y) piece n ctx obstacles)
 
-  darts_count : (numbers : Spreading) (attempts : ℕ) (b : Bounds) (rng : Stream) → length (throw_within b numbers piece n attempts ctx obstacles rng).placed ≤ n
+  darts_count : (numbers : Spreading) (attempts : ℕ) (b : Option Extents) (rng : Stream) → length (throw_within b numbers piece n attempts ctx obstacles rng).placed ≤ n
   unfolding throw_within
-  darts_count numbers attempts Unbounded rng = omega arith
-  darts_count numbers attempts (Box min-x max-x min-y max-y) rng = go ctx.mode.spread
+  darts_count numbers attempts None rng = omega arith
+  darts_count numbers attempts (Some bounds) rng = go ctx.mode.spread
     where
       near : List Rectangle
       near = local_to piece obstacles (inset ctx)
 
       thrown : Thrown
-      thrown = throws piece n attempts ctx near min-x max-x min-y max-y rng
+      thrown = throws piece n attempts ctx near bounds.min_x bounds.max_x bounds.min_y bounds.max_y rng
 
       few : length thrown.placed ≤ n
-      few = thrown_count piece n attempts ctx near min-x max-x min-y max-y rng
+      few = thrown_count piece n attempts ctx near bounds.min_x bounds.max_x bounds.min_y bounds.max_y rng
 
       go : (b : Bool) → length (cond b (record { placed = relax_scatter numbers thrown.placed piece near (spacing ctx) (inset ctx); rng = thrown.rng }) thrown).placed ≤ n
       go true = rw (length_relaxed numbers thrown.placed piece near (spacing ctx) (inset ctx)) few
@@ -149,10 +147,10 @@ module _ (numbers : Spreading) (options : GlyphOptions) (ctx : PackCtx) (obstacl
       let thrown = pack_quota numbers options ctx obstacles found piece quota rng in
       omega (arith, quota_count piece quota ctx obstacles spread numbers options found rng, pieces_count pieces deepests shares thrown.rng)
 
-place_count : (sizing : Sizing) (options : GlyphOptions) (obstacles : List Rectangle) (zone : Zone) → placed_in (place_for sizing options obstacles (own_of options zone)) ≤ sum (quotas zone)
+place_count : (sizing : Option Size) (options : GlyphOptions) (obstacles : List Rectangle) (zone : Zone) → placed_in (place_for sizing options obstacles (own_of options zone)) ≤ sum (quotas zone)
 unfolding place_for pack_handed
-place_count Unplaced options obstacles zone = unfold placed_in in omega arith
-place_count (At size) options obstacles zone =
+place_count None options obstacles zone = unfold placed_in in omega arith
+place_count (Some size) options obstacles zone =
     pieces_count source options (context_at options (pack options) size.radius) obstacles refl zone.pieces _ (quotas zone) (seeded options.seed (fnv1a zone.key))
 
 sum_same : (l : List ℕ) → sum l ≡ HandOut.sum l
@@ -160,45 +158,45 @@ unfolding sum weigh
 sum_same [] = refl
 sum_same (x ∷ xs) = omega (arith, sum_same xs)
 
-module _ (s rows rings sizes : List ℕ) (coords : List Float) (zone : Zone) (zones : List Zone) (z : ℕ) (at : Offsets) (l : Left s rows rings sizes coords (zone ∷ zones) z at) where
+module _ (s : List ℕ) (row : Row) (rows : List Row) (rings sizes : List ℕ) (coords : List Float) (zone : Zone) (zones : List Zone) (at : Offsets) (l : Left s (row ∷ rows) rings sizes coords (zone ∷ zones) at) where
   -- the quotas of a zone left in are its marks
-  quota_sum : row_is_left_in (row_of rows z) ≡ true → sum (quotas zone) ≡ (row_of rows z).count
+  quota_sum : row_is_left_in row ≡ true → sum (quotas zone) ≡ row.count
   unfolding is_left_in
   quota_sum e =
-      let r = own_row s rows rings sizes coords zone zones z at l in
-      let i : is_left_in zone ≡ true = sym (own_left_in s rows rings sizes coords zone zones z at l) ∙ e in
+      let r = own_row s row rows rings sizes coords zone zones at l in
+      let i : is_left_in zone ≡ true = sym (own_left_in s row rows rings sizes coords zone zones at l) ∙ e in
       let some = ltb-true 0 (length zone.pieces) (both_true (ltb 0 zone.count) (ltb 0 (length zone.pieces)) i).1 in
       let k = l.known.0 in
       sum_same (quotas zone) ∙ sym (assigned_sum (quotas zone)) ∙ zone_sum zone k.pieces k.few some (rw (← r.count) r.fits.few) ∙ sym r.count
 
-  module _ (options : GlyphOptions) (shares : List ℕ) (deepest : List Float) (f : Filled options shares deepest (zone ∷ zones) at) where
-    shares_fit : at.piece ≤ length shares → at.piece + (row_of rows z).pieces ≤ length shares
+  module _ (options : GlyphOptions) (shares : List ℕ) (deepest : List Deepest) (f : Filled options shares deepest (zone ∷ zones) at) where
+    shares_fit : at.piece ≤ length shares → at.piece + row.pieces ≤ length shares
     shares_fit h =
         omega (
           arith,
           h,
-          ap length (own_shares options s rows rings sizes coords shares deepest zone zones z at l f),
+          ap length (own_shares options s row rows rings sizes coords shares deepest zone zones at l f),
           length_quotas zone,
-          (own_row s rows rings sizes coords zone zones z at l).pieces,
-          length-take (row_of rows z).pieces (drop at.piece shares),
+          (own_row s row rows rings sizes coords zone zones at l).pieces,
+          length-take row.pieces (drop at.piece shares),
           length-drop at.piece shares,
         )
 
-    deepest_fit : at.piece * 3 ≤ length deepest → (at.piece + (row_of rows z).pieces) * 3 ≤ length deepest
+    deepest_fit : at.piece ≤ length deepest → at.piece + row.pieces ≤ length deepest
     deepest_fit h =
         omega (
           arith,
           h,
-          ap length (own_deepest options s rows rings sizes coords shares deepest zone zones z at l f),
-          length_threes_of options zone,
-          (own_row s rows rings sizes coords zone zones z at l).pieces,
-          length-take ((row_of rows z).pieces * 3) (drop (at.piece * 3) deepest),
-          length-drop (at.piece * 3) deepest,
+          ap length (own_deepest options s row rows rings sizes coords shares deepest zone zones at l f),
+          length_found_of options zone,
+          (own_row s row rows rings sizes coords zone zones at l).pieces,
+          length-take row.pieces (drop at.piece deepest),
+          length-drop at.piece deepest,
         )
 
-    packable : at.piece ≤ length shares → at.piece * 3 ≤ length deepest → Packable s rings sizes coords shares deepest (row_of rows z) at
+    packable : at.piece ≤ length shares → at.piece ≤ length deepest → Packable s rings sizes coords shares deepest row at
     packable p q =
-        let r = own_readable s rows rings sizes coords zone zones z at l in
+        let r = own_readable s row rows rings sizes coords zone zones at l in
         record {
           stands = record {
             pieces = r.ringed;
@@ -208,42 +206,42 @@ module _ (s rows rings sizes : List ℕ) (coords : List Float) (zone : Zone) (zo
             points = deepest_fit q;
             marks = r.marks;
           };
-          key = (own_row s rows rings sizes coords zone zones z at l).inside;
+          key = (own_row s row rows rings sizes coords zone zones at l).inside;
           shared = shares_fit p;
-          few = λ (e : row_is_left_in (row_of rows z) ≡ true). rw (own_shares options s rows rings sizes coords shares deepest zone zones z at l f, quota_sum e) r.marks;
+          few = λ (e : row_is_left_in row ≡ true). rw (own_shares options s row rows rings sizes coords shares deepest zone zones at l f, quota_sum e) r.marks;
         }
 
-    fair : (sizing : Sizing) (obstacles : List Rectangle) → Fair sizing options obstacles s rings sizes coords shares deepest (row_of rows z) at
+    fair : (sizing : Option Size) (obstacles : List Rectangle) → Fair sizing options obstacles s rings sizes coords shares deepest row at
     unfolding Fair
-    fair sizing obstacles e = rw (handed_own options s rows rings sizes coords shares deepest zone zones z at l f, ← quota_sum e) (place_count sizing options obstacles zone)
+    fair sizing obstacles e = rw (handed_own options s row rows rings sizes coords shares deepest zone zones at l f, ← quota_sum e) (place_count sizing options obstacles zone)
 
 -- ---- all zones
 
-module _ (options : GlyphOptions) (s rows rings sizes : List ℕ) (coords : List Float) (shares : List ℕ) (deepest : List Float) where
+module _ (options : GlyphOptions) (s rings sizes : List ℕ) (coords : List Float) (shares : List ℕ) (deepest : List Deepest) where
   all_packable :
-      (zones : List Zone) (z : ℕ) (at : Offsets) → Left s rows rings sizes coords zones z at → Filled options shares deepest zones at → at.piece ≤ length shares → at.piece * 3 ≤ length deepest
-      → EachRow rows rings sizes (Packable s rings sizes coords shares deepest) (length zones) z at
-  unfolding EachRow
-  all_packable [] z at l f p q = tt
-  all_packable (zone ∷ zones) z at l f p q =
-      let past = past_piece rings sizes (row_of rows z) at in (
-        packable s rows rings sizes coords zone zones z at l options shares deepest f p q,
-        all_packable zones (z + 1) (past_row rings sizes (row_of rows z) at) (left_next s rows rings sizes coords zone zones z at l) (filled_next options s rows rings sizes coords shares deepest zone zones z at l f)
-            (rw past (shares_fit s rows rings sizes coords zone zones z at l options shares deepest f p))
-            (rw past (deepest_fit s rows rings sizes coords zone zones z at l options shares deepest f q)),
+      (rows : List Row) (zones : List Zone) (at : Offsets) → Left s rows rings sizes coords zones at → Filled options shares deepest zones at → at.piece ≤ length shares → at.piece ≤ length deepest
+      → EachRow rings sizes (Packable s rings sizes coords shares deepest) rows at
+  unfolding EachRow AreRows
+  all_packable [] zones at l f p q = tt
+  all_packable (row ∷ rows) [] at l f p q = absurd l.are_rows
+  all_packable (row ∷ rows) (zone ∷ zones) at l f p q =
+      let past = past_piece rings sizes row at in (
+        packable s row rows rings sizes coords zone zones at l options shares deepest f p q,
+        all_packable rows zones (past_row rings sizes row at) (left_next s row rows rings sizes coords zone zones at l) (filled_next options s row rows rings sizes coords shares deepest zone zones at l f)
+            (rw past (shares_fit s row rows rings sizes coords zone zones at l options shares deepest f p))
+            (rw past (deepest_fit s row rows rings sizes coords zone zones at l options shares deepest f q)),
       )
 
-  pub floor_is :
-      (zones : List Zone) → Left s rows rings sizes coords zones 0 start → Filled options shares deepest zones start → length zones * 4 ≤ length rows
-      → Floor s (length zones) rows rings sizes coords shares deepest
-  floor_is zones l f h = record { long = h; each = all_packable zones 0 start l f (omega arith) (omega arith) }
+  pub floor_is : (rows : List Row) (zones : List Zone) → Left s rows rings sizes coords zones start → Filled options shares deepest zones start → Floor s rows rings sizes coords shares deepest
+  floor_is rows zones l f = all_packable rows zones start l f (omega arith) (omega arith)
 
   pub all_fair :
-      (sizing : Sizing) (obstacles : List Rectangle) (zones : List Zone) (z : ℕ) (at : Offsets) → Left s rows rings sizes coords zones z at → Filled options shares deepest zones at
-      → EachRow rows rings sizes (Fair sizing options obstacles s rings sizes coords shares deepest) (length zones) z at
-  unfolding EachRow
-  all_fair sizing obstacles [] z at l f = tt
-  all_fair sizing obstacles (zone ∷ zones) z at l f = (
-    fair s rows rings sizes coords zone zones z at l options shares deepest f sizing obstacles,
-    all_fair sizing obstacles zones (z + 1) (past_row rings sizes (row_of rows z) at) (left_next s rows rings sizes coords zone zones z at l) (filled_next options s rows rings sizes coords shares deepest zone zones z at l f),
+      (sizing : Option Size) (obstacles : List Rectangle) (rows : List Row) (zones : List Zone) (at : Offsets) → Left s rows rings sizes coords zones at → Filled options shares deepest zones at
+      → EachRow rings sizes (Fair sizing options obstacles s rings sizes coords shares deepest) rows at
+  unfolding EachRow AreRows
+  all_fair sizing obstacles [] zones at l f = tt
+  all_fair sizing obstacles (row ∷ rows) [] at l f = absurd l.are_rows
+  all_fair sizing obstacles (row ∷ rows) (zone ∷ zones) at l f = (
+    fair s row rows rings sizes coords zone zones at l options shares deepest f sizing obstacles,
+    all_fair sizing obstacles rows zones (past_row rings sizes row at) (left_next s row rows rings sizes coords zone zones at l) (filled_next options s row rows rings sizes coords shares deepest zone zones at l f),
   )

@@ -1,6 +1,6 @@
 -- A zone's bytes in the sheet: those that the code puts are the definition's.
 -- Rests on the laws of a sheet's bytes, and on there being two floats for each spot.
-use Rattle.std.specs.Prelude.{ℕ, ◌+◌, ◌-◌, ◌*◌, ◌/◌, ◌≤◌, ◌≡◌, true, false, length, Float}
+use Rattle.std.specs.Prelude.{ℕ, ◌+◌, ◌-◌, ◌*◌, ◌/◌, ◌≤◌, ◌≡◌, true, false, length, Float, Option}
 use Rattle.std.proofs.Common.{sym, ◌∙◌, arith, length-take-le}
 use mathlib.Core.List.{List, append-nil, flatten, flat_map}
 use Rattle.std.proofs.Math.ListN.{take}
@@ -12,8 +12,9 @@ use Rattle.format.specs.Numbers.{float_bytes}
 use Rattle.sheet.specs.Sheet.{Placement, zone_head, placement_bytes}
 use Rattle.sheet.proofs.Back.{length_placement}
 use Rattle.sheet.proofs.Laws.{put_placement}
+use Rattle.deepest.specs.declared.search.Deepest.{Deepest}
+use Rattle.discs.specs.declared.radius.Size.{Size}
 use Rattle.discs.specs.declared.options.GlyphOptions.{GlyphOptions}
-use Rattle.discs.specs.declared.radius.Sizing.{Sizing}
 use Rattle.discs.specs.declared.rows.Row.{Row}
 use Rattle.discs.specs.declared.rows.Offsets.{Offsets}
 use Rattle.discs.specs.Region.{placed_in}
@@ -52,7 +53,7 @@ module _ (s : List ℕ) (row : Row) (placed : ℕ) (spots : List Float) (h : row
         put = e₂ ∙ rw (e₁, p, f) (rw (half, key_long) at (put_placement l₀ at (placement_of s row placed spots)));
       }
 
-module _ (sizing : Sizing) (options : GlyphOptions) (obstacles : List Rectangle) (s rings sizes : List ℕ) (coords : List Float) (quotas : List ℕ) (deepest : List Float) (row : Row) (at : Offsets) where
+module _ (sizing : Option Size) (options : GlyphOptions) (obstacles : List Rectangle) (s rings sizes : List ℕ) (coords : List Float) (quotas : List ℕ) (deepest : List Deepest) (row : Row) (at : Offsets) where
   pub bytes_out : (p : ℕ) (sheet : List ℕ) → row_is_left_in row ≡ false → Put (bytes_at sizing options obstacles s rings sizes coords quotas deepest row at) p p sheet sheet
   unfolding bytes_at placed_at flat_map
   bytes_out p sheet e = record { ends = rw e (omega arith); put = rw e }

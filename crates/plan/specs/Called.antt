@@ -2,23 +2,22 @@
 use Rattle.std.specs.Prelude.{ℕ, ◌≡◌, List, length, Float}
 use Rattle.laws.specs.Lists.{written}
 use Rattle.sheet.specs.Sheet.{sheet_of}
+use Rattle.discs.specs.declared.rows.Row.{Row}
 use Rattle.discs.specs.declared.options.GlyphOptions.{GlyphOptions}
 use Rattle.discs.specs.PlaceGlyphs.{Placements}
 use Rattle.discs.specs.Floor.{start}
 use Rattle.format.specs.Rows.{◌or_else◌}
 use Rattle.job.specs.Job.{Job, job_of, items_fault, sheet_fault}
 use Rattle.job.specs.Plan.{search_fault, ceiling_fault, placements_of, sheet_for, Plan}
-use Rattle.plan.specs.declared.answer.Answer.{Answer}
+use Rattle.plan.specs.Answer.{Answer, refused_by}
 use Rattle.plan.specs.Left.{Left}
-use Rattle.plan.specs.Sized.{refused_by}
 
 -- a job without fault that stands in the slices
-pub record ReadIn (s : List ℕ) (options : GlyphOptions) (obstacles : List Float) (n : ℕ) (rows rings sizes : List ℕ) (coords : List Float) : Type 0 where
+pub record ReadIn (s : List ℕ) (options : GlyphOptions) (obstacles : List Float) (rows : List Row) (rings sizes : List ℕ) (coords : List Float) : Type 0 where
   pub whole : items_fault s ≡ 0
   pub choices : options ≡ (job_of s).options
   pub pillars : obstacles ≡ (job_of s).obstacles
-  pub count : n ≡ length (job_of s).zones
-  pub left : Left s rows rings sizes coords (job_of s).zones 0 start
+  pub left : Left s rows rings sizes coords (job_of s).zones start
 
 abbrev pub given_by : Placements → Answer
 given_by placements =

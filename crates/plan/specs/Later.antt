@@ -1,11 +1,9 @@
 -- Which numbers the rows refuse with: 1 and 2 by the lent slices, and neither by the rows after them.
 -- Rests on how the table of refusals is read.
-use Rattle.std.specs.Prelude.{ℕ, zero, suc, ◌+◌, ◌*◌, ◌≡◌, refl, Bool, true, false, ◌||◌, List, eqb}
+use Rattle.std.specs.Prelude.{ℕ, zero, suc, ◌+◌, ◌*◌, ◌≡◌, refl, Bool, true, false, ◌||◌, List, eqb, None, Some, Option, Float}
 use Rattle.format.specs.Rows.{◌unless◌, ◌or_else◌, faults}
 use Rattle.format.specs.Numbers.{u8, u16, item, coord_in, next_coord}
 use Rattle.format.specs.Pieces.{ring_fault, ring_end, piece_fault, piece_end}
-use Rattle.discs.specs.declared.ceiling.Chosen.{Chosen}
-use Rattle.discs.specs.declared.ceiling.Chosen.TheVariants.{None, Some}
 use Rattle.job.specs.Head.{lent_fault, work_fault, number_after, choices_fault, measures_fault, head_fault, obstacles_at, obstacles_fault}
 use Rattle.job.specs.Zones.{Place, next_byte, letter_fault, key_fault, counts_fault, count_at, pieces_at, opening_fault, zone_fault, zone_next}
 use Rattle.job.specs.Job.{Job, job_of, zones_at, first_zone, zones_fault, items_fault, sheet_fault}
@@ -132,7 +130,7 @@ module _ (s : List ℕ) where
   unfolding items_fault
   later_items = later_else (head_fault s) (obstacles_fault s or_else zones_fault s) later_head (later_else (obstacles_fault s) (zones_fault s) later_obstacles later_zones)
 
-later_low : (ceiling : Chosen) → Later (low_fault ceiling)
+later_low : (ceiling : Option Float) → Later (low_fault ceiling)
 unfolding low_fault
 later_low None = refl
 later_low (Some r-hi) = later_unless 16 _ refl

@@ -1,7 +1,7 @@
 -- What the reader leaves of a job's zones in flat slices, zone by zone: each row is the zone's, and the pieces there are the zone's.
 -- Rests on flat pieces being those pieces.
-use Prim.Native.Nat.{ℕ, suc, ◌+◌, ◌*◌, ◌<◌, ◌≤◌}
-use Rattle.std.specs.Prelude.{◌≡◌, refl, get_or, take, drop, Float}
+use Prim.Native.Nat.{ℕ, ◌+◌, ◌*◌, ◌≤◌}
+use Rattle.std.specs.Prelude.{◌≡◌, refl, take, drop, Float}
 use Rattle.std.proofs.Common.{sym, ◌∙◌}
 use Rattle.std.proofs.Math.Path.{ap}
 use mathlib.Core.List.{List, [], ◌∷◌, ◌++◌, append_assoc, map, flat_map}
@@ -16,16 +16,16 @@ use Rattle.discs.specs.declared.rows.Offsets.{Offsets}
 use Rattle.discs.specs.Region.{Zone, quotas}
 use Rattle.discs.specs.PlaceGlyphs.{is_left_in}
 use Rattle.discs.specs.Pieces.{Laid}
-use Rattle.discs.specs.Floor.{row_of, row_is_left_in, cut, past_row, EachRow}
+use Rattle.discs.specs.Floor.{row_is_left_in, cut, past_row, EachRow}
 use Rattle.job.specs.Job.{coords_of, sizes_of, rings_of}
-use Rattle.job.specs.Rows.{IsRow}
+use Rattle.job.specs.Rows.{IsRow, AreRows}
 use Rattle.job.specs.Known.{ZoneKnown}
 use Rattle.plan.specs.Back.{sizes_in, coords_in, front, sizes_count, coords_count, pieces_back, laid_back}
 use Rattle.plan.specs.Rows.{Readable, flat_rows, shares_at, pieces_at}
 
--- the rows from z on, and the slices from `at` on, hold these zones
-pub record Left (s rows rings sizes : List ℕ) (coords : List Float) (zones : List Zone) (z : ℕ) (at : Offsets) : Type 0 where
-  pub is_row : (d : Zone) (i : ℕ) → i < length zones → IsRow s (get_or zones i d) (row_of rows (z + i))
+-- the rows, and the slices from `at` on, hold these zones
+pub record Left (s : List ℕ) (rows : List Row) (rings sizes : List ℕ) (coords : List Float) (zones : List Zone) (at : Offsets) : Type 0 where
+  pub are_rows : AreRows s zones rows
   pub rest_rings : List ℕ
   pub rest_sizes : List ℕ
   pub rest_coords : List Float
@@ -37,12 +37,16 @@ pub record Left (s rows rings sizes : List ℕ) (coords : List Float) (zones : L
   pub coord : at.coord ≤ length coords
   pub known : All ZoneKnown zones
 
-module _ (s rows rings sizes : List ℕ) (coords : List Float) (zone : Zone) (zones : List Zone) (z : ℕ) (at : Offsets) (l : Left s rows rings sizes coords (zone ∷ zones) z at) where
-  row : Row
-  row = row_of rows z
+module _
+    (s : List ℕ) (row : Row) (rows : List Row) (rings sizes : List ℕ) (coords : List Float) (zone : Zone) (zones : List Zone) (at : Offsets)
+    (l : Left s (row ∷ rows) rings sizes coords (zone ∷ zones) at) where
+  pub own_row : IsRow s zone row
+  unfolding AreRows
+  own_row = l.are_rows.0
 
-  pub own_row : IsRow s zone (row_of rows z)
-  own_row = let e : z + 0 ≡ z = omega arith in rw e at (l.is_row zone 0 (omega arith))
+  others : AreRows s zones rows
+  unfolding AreRows
+  others = l.are_rows.1
 
   ps : List Piece
   ps = zone.pieces
@@ -62,22 +66,22 @@ module _ (s rows rings sizes : List ℕ) (coords : List Float) (zone : Zone) (zo
   unfolding coords_of flat_map
   coords_here = l.in_coords ∙ append_assoc (coords_in zone.pieces) (coords_of zones) l.rest_coords
 
-  count : length (map length zone.pieces) ≡ (row_of rows z).pieces
+  count : length (map length zone.pieces) ≡ row.pieces
   count = length-map zone.pieces length ∙ sym own_row.pieces
 
-  pub own_rings : cut at.piece (row_of rows z).pieces rings ≡ map length zone.pieces
-  own_rings = rw rings_here (front (map length zone.pieces) (rings_of zones ++ l.rest_rings) (row_of rows z).pieces count)
+  pub own_rings : cut at.piece row.pieces rings ≡ map length zone.pieces
+  own_rings = rw rings_here (front (map length zone.pieces) (rings_of zones ++ l.rest_rings) row.pieces count)
 
-  pub own_pieces : pieces_at rings sizes coords (row_of rows z) at ≡ zone.pieces
+  pub own_pieces : pieces_at rings sizes coords row at ≡ zone.pieces
   own_pieces = rw (own_rings, sizes_here, coords_here) (pieces_back zone.pieces (sizes_of zones ++ l.rest_sizes) (coords_of zones ++ l.rest_coords) known)
 
-  own_laid : Laid (cut at.piece (row_of rows z).pieces rings) (drop at.ring sizes) (drop at.coord coords)
+  own_laid : Laid (cut at.piece row.pieces rings) (drop at.ring sizes) (drop at.coord coords)
   own_laid = rw (own_rings, sizes_here, coords_here) (laid_back zone.pieces (sizes_of zones ++ l.rest_sizes) (coords_of zones ++ l.rest_coords) known)
 
-  rings_fit : at.piece + (row_of rows z).pieces ≤ length rings
+  rings_fit : at.piece + row.pieces ≤ length rings
   rings_fit = omega (arith, length-drop at.piece rings, ap length rings_here, length-append (map length zone.pieces) (rings_of zones ++ l.rest_rings), count, l.piece)
 
-  pub own_readable : Readable rings sizes coords (row_of rows z) at
+  pub own_readable : Readable rings sizes coords row at
   own_readable =
       record {
         ringed = rings_fit;
@@ -88,21 +92,21 @@ module _ (s rows rings sizes : List ℕ) (coords : List Float) (zone : Zone) (zo
         marks = own_row.fits.few;
       }
 
-  pub own_left_in : row_is_left_in (row_of rows z) ≡ is_left_in zone
+  pub own_left_in : row_is_left_in row ≡ is_left_in zone
   unfolding row_is_left_in is_left_in
   own_left_in = rw (own_row.count, own_row.pieces)
 
-  own_sizes_lem : take (sum (cut at.piece (row_of rows z).pieces rings)) (drop at.ring sizes) ≡ sizes_in zone.pieces
+  own_sizes_lem : take (sum (cut at.piece row.pieces rings)) (drop at.ring sizes) ≡ sizes_in zone.pieces
   own_sizes_lem = rw (own_rings, sizes_here) (front (sizes_in zone.pieces) (sizes_of zones ++ l.rest_sizes) (sum (map length zone.pieces)) (sizes_count zone.pieces))
 
   -- the zones behind it
-  pub left_next : Left s rows rings sizes coords zones (z + 1) (past_row rings sizes (row_of rows z) at)
+  pub left_next : Left s rows rings sizes coords zones (past_row rings sizes row at)
   unfolding past_row
   left_next =
-      let es : at.ring + length (take (sum (cut at.piece (row_of rows z).pieces rings)) (drop at.ring sizes)) ≡ at.ring + length (sizes_in zone.pieces) = rw own_sizes_lem in
-      let ec : at.coord + sum (take (sum (cut at.piece (row_of rows z).pieces rings)) (drop at.ring sizes)) * 2 ≡ at.coord + length (coords_in zone.pieces) = rw (own_sizes_lem, coords_count zone.pieces known) in
+      let es : at.ring + length (take (sum (cut at.piece row.pieces rings)) (drop at.ring sizes)) ≡ at.ring + length (sizes_in zone.pieces) = rw own_sizes_lem in
+      let ec : at.coord + sum (take (sum (cut at.piece row.pieces rings)) (drop at.ring sizes)) * 2 ≡ at.coord + length (coords_in zone.pieces) = rw (own_sizes_lem, coords_count zone.pieces known) in
       record {
-        is_row = λ (d : Zone) (i : ℕ) (h : i < length zones). let e : z + suc i ≡ z + 1 + i = omega arith in rw e at (l.is_row d (suc i) (omega arith));
+        are_rows = others;
         rest_rings = l.rest_rings;
         rest_sizes = l.rest_sizes;
         rest_coords = l.rest_coords;
@@ -118,26 +122,28 @@ module _ (s rows rings sizes : List ℕ) (coords : List Float) (zone : Zone) (zo
 -- ---- all zones
 
 pub all_readable :
-    (s rows rings sizes : List ℕ) (coords : List Float) (zones : List Zone) (z : ℕ) (at : Offsets) → Left s rows rings sizes coords zones z at
-    → EachRow rows rings sizes (Readable rings sizes coords) (length zones) z at
-unfolding EachRow
-all_readable s rows rings sizes coords [] z at l = tt
-all_readable s rows rings sizes coords (zone ∷ zones) z at l =
-    (own_readable s rows rings sizes coords zone zones z at l, all_readable s rows rings sizes coords zones (z + 1) (past_row rings sizes (row_of rows z) at) (left_next s rows rings sizes coords zone zones z at l))
+    (s : List ℕ) (rows : List Row) (rings sizes : List ℕ) (coords : List Float) (zones : List Zone) (at : Offsets) → Left s rows rings sizes coords zones at → EachRow rings sizes (Readable rings sizes coords) rows at
+unfolding EachRow AreRows
+all_readable s [] rings sizes coords zones at l = tt
+all_readable s (row ∷ rows) rings sizes coords [] at l = absurd l.are_rows
+all_readable s (row ∷ rows) rings sizes coords (zone ∷ zones) at l =
+    (own_readable s row rows rings sizes coords zone zones at l, all_readable s rows rings sizes coords zones (past_row rings sizes row at) (left_next s row rows rings sizes coords zone zones at l))
 
 -- a walk over the rows is one over the zones, where each row's view is the zone's
 pub flat_zones :
-    {A : Type 0} (view : Row → Offsets → List A) (own : Zone → List A) (s rows rings sizes : List ℕ) (coords : List Float)
-    → ((zone : Zone) (zones : List Zone) (z : ℕ) (at : Offsets) → Left s rows rings sizes coords (zone ∷ zones) z at → view (row_of rows z) at ≡ own zone)
-    → (zones : List Zone) (z : ℕ) (at : Offsets) → Left s rows rings sizes coords zones z at → flat_rows rows rings sizes view (length zones) z at ≡ flat_map own zones
-unfolding flat_rows flat_map
-flat_zones view own s rows rings sizes coords same [] z at l = refl
-flat_zones view own s rows rings sizes coords same (zone ∷ zones) z at l =
-    rw (same zone zones z at l, flat_zones view own s rows rings sizes coords same zones (z + 1) (past_row rings sizes (row_of rows z) at) (left_next s rows rings sizes coords zone zones z at l))
+    {A : Type 0} (view : Row → Offsets → List A) (own : Zone → List A) (s rings sizes : List ℕ) (coords : List Float)
+    → ((row : Row) (rows : List Row) (zone : Zone) (zones : List Zone) (at : Offsets) → Left s (row ∷ rows) rings sizes coords (zone ∷ zones) at → view row at ≡ own zone)
+    → (rows : List Row) (zones : List Zone) (at : Offsets) → Left s rows rings sizes coords zones at → flat_rows rings sizes view rows at ≡ flat_map own zones
+unfolding flat_rows flat_map AreRows
+flat_zones view own s rings sizes coords same [] [] at l = refl
+flat_zones view own s rings sizes coords same [] (zone ∷ zones) at l = absurd l.are_rows
+flat_zones view own s rings sizes coords same (row ∷ rows) [] at l = absurd l.are_rows
+flat_zones view own s rings sizes coords same (row ∷ rows) (zone ∷ zones) at l =
+    rw (same row rows zone zones at l, flat_zones view own s rings sizes coords same rows zones (past_row rings sizes row at) (left_next s row rows rings sizes coords zone zones at l))
 
 -- the quotas of all pieces
-pub shares_are : (s rows rings sizes : List ℕ) (coords : List Float) (zones : List Zone) (z : ℕ) (at : Offsets) → Left s rows rings sizes coords zones z at → flat_rows rows rings sizes (shares_at rings sizes coords) (length zones) z at ≡ flat_map quotas zones
-shares_are s rows rings sizes coords zones z at l = flat_zones (shares_at rings sizes coords) quotas s rows rings sizes coords same zones z at l
+pub shares_are : (s : List ℕ) (rows : List Row) (rings sizes : List ℕ) (coords : List Float) (zones : List Zone) (at : Offsets) → Left s rows rings sizes coords zones at → flat_rows rings sizes (shares_at rings sizes coords) rows at ≡ flat_map quotas zones
+shares_are s rows rings sizes coords zones at l = flat_zones (shares_at rings sizes coords) quotas s rings sizes coords same rows zones at l
   where
-    same : (zone : Zone) (zones : List Zone) (z : ℕ) (at : Offsets) → Left s rows rings sizes coords (zone ∷ zones) z at → shares_at rings sizes coords (row_of rows z) at ≡ quotas zone
-    same zone zones z at l = unfold shares_at quotas in rw (own_pieces s rows rings sizes coords zone zones z at l, (own_row s rows rings sizes coords zone zones z at l).count)
+    same : (row : Row) (rows : List Row) (zone : Zone) (zones : List Zone) (at : Offsets) → Left s (row ∷ rows) rings sizes coords (zone ∷ zones) at → shares_at rings sizes coords row at ≡ quotas zone
+    same row rows zone zones at l = unfold shares_at quotas in rw (own_pieces s row rows rings sizes coords zone zones at l, (own_row s row rows rings sizes coords zone zones at l).count)

@@ -6,11 +6,12 @@ pub mod Back
 pub mod Left
 pub mod Placing
 pub mod Bytes
+pub mod Answer
 pub mod Sized
 pub mod Sheets
+pub mod Sound
 pub mod Own
 pub mod Read
-pub mod Sound
 pub mod Packing
 pub mod Placements
 pub mod Put
@@ -21,3 +22,4 @@ pub mod Called
 pub mod Zoned
 pub mod Later
 pub mod CallLaws
+pub mod Bundled

@@ -26,8 +26,7 @@ use Rattle.relax.specs.Scatter.{source}
 use Rattle.job.specs.Plan.{room, ceiling_of}
 use Rattle.plan.specs.Own.{length_quotas, found_of, own_of}
 use Rattle.plan.specs.Read.{left_in_found}
-use Rattle.plan.specs.Sound.{points_back}
-use Rattle.plan.specs.Packing.{packs_at, all_sound, packing_own}
+use Rattle.plan.specs.Packing.{packs_at, packing_own}
 use Rattle.plan.specs.Sized.{ceiling_for, sizing_for}
 
 module _ (options : GlyphOptions) where
@@ -59,7 +58,7 @@ module _ (options : GlyphOptions) where
   points_own zone f e =
       let s = searches_in room options zone.pieces (quotas zone) in
       let g : found_of options zone ≡ s = unfold found_of in rw f.left_in (left_in_found options zone.pieces (quotas zone)) in
-      rw g (points_back s (all_sound options zone.pieces (quotas zone) (rw g at f.fits)) ∙ all_searched e zone.pieces (quotas zone) (rw (length_quotas zone) (omega arith)))
+      rw g (all_searched e zone.pieces (quotas zone) (rw (length_quotas zone) (omega arith)))
 
   -- ---- the zones left in
 

@@ -1,15 +1,12 @@
 -- A zone that is left in, and whose searches had room, is handed in as its packing needs it: with its own quotas and deepest points.
--- Rests on a deepest point coming back from its three floats.
+-- Rests on the searches being made where a packing starts from a deepest point.
 use Rattle.std.specs.Prelude.{ℕ, ◌≡◌, Bool, true}
 use Rattle.std.proofs.Math.Path.{refl}
 use mathlib.Core.List.{List, [], ◌∷◌}
 use Rattle.laws.specs.Any.{all}
-use Rattle.laws.specs.Truth.{both_true}
 use Rattle.float.specs.Ops.{◌>ᶠ◌, 0ᶠ}
 use Rattle.glyphs.specs.declared.options.GlyphArrangement.{GlyphArrangement}
 use Rattle.regions.specs.Ring.{Piece}
-use Rattle.deepest.specs.Deepest.{deeper_of, poi_with_holes}
-use Rattle.deepest.specs.declared.search.Deepest.TheVariants.{Nothing}
 use Rattle.discs.specs.declared.options.GlyphOptions.{GlyphOptions}
 use Rattle.discs.specs.declared.options.Radius.{Radius}
 use Rattle.discs.specs.declared.options.Radius.TheVariants.{Auto, Stated}
@@ -21,7 +18,6 @@ use Rattle.discs.specs.FloorLaws.{OwnPacking}
 use Rattle.plan.specs.Found.{found_in}
 use Rattle.plan.specs.Own.{found_of, own_of}
 use Rattle.plan.specs.Read.{left_in_found}
-use Rattle.plan.specs.Sound.{sound, Sound, sound_nothing, sound_cond, point_sound, points_back}
 
 -- a radius that is packed at: an automatic one, or one above 0
 unfoldable pub packs_at : Radius → Bool
@@ -38,19 +34,6 @@ module _ (options : GlyphOptions) where
   unfolding searched
   searched_own piece quota p n = rw (is_searched_lem options.radius options.arrangement piece quota p n)
 
-  searched_sound : (piece : Piece) (quota : ℕ) → Sound (searched 1600 options piece quota)
-  unfolding searched poi_with_holes deeper_of
-  searched_sound piece quota =
-      sound_cond (is_searched options.radius options.arrangement piece quota) (deepest_of 1600 options piece) Nothing (point_sound 1600 options.precision piece) sound_nothing
-
-  pub all_sound : (pieces : List Piece) (shares : List ℕ) → all had_room (searches_in 1600 options pieces shares) ≡ true → all sound (searches_in 1600 options pieces shares) ≡ true
-  unfolding all searches_in
-  all_sound [] shares h = refl
-  all_sound (piece ∷ pieces) [] h = refl
-  all_sound (piece ∷ pieces) (share ∷ shares) h =
-      let p = both_true (had_room (searched 1600 options piece share)) (all had_room (searches_in 1600 options pieces shares)) h in
-      rw (searched_sound piece share p.0, all_sound pieces shares p.1)
-
   searches_own : (pieces : List Piece) (shares : List ℕ) → packs_at options.radius ≡ true → Own 1600 options pieces (searches_in 1600 options pieces shares) shares
   unfolding searches_in
   searches_own [] shares p = tt
@@ -61,8 +44,7 @@ module _ (options : GlyphOptions) where
   unfolding found_of
   packing_own zone p l h =
       let e : found_in options (is_left_in zone) zone.pieces (quotas zone) ≡ searches_in 1600 options zone.pieces (quotas zone) = rw l (left_in_found options zone.pieces (quotas zone)) in
-      let s = all_sound zone.pieces (quotas zone) (rw e at h) in
       record {
         shares = refl;
-        points = rw (e, points_back (searches_in 1600 options zone.pieces (quotas zone)) s) (searches_own zone.pieces (quotas zone) p);
+        points = rw e (searches_own zone.pieces (quotas zone) p);
       }

@@ -1,14 +1,14 @@
 -- What is put into the sheet for each zone, from what the flat slices hand in. Definitions only.
-use Rattle.std.specs.Prelude.{ℕ, ◌+◌, ◌-◌, ◌≤◌, ◌≡◌, true, cond, length, Float}
+use Rattle.std.specs.Prelude.{ℕ, ◌+◌, ◌-◌, ◌≤◌, ◌≡◌, true, cond, length, Float, None, Some, Option}
 use mathlib.Core.List.{List, [], ◌∷◌, flatten, flat_map}
 use Rattle.std.proofs.lemmas.List.Edits.{sets}
 use Rattle.glyphs.specs.Spots.{flat}
 use Rattle.glyphs.specs.declared.rect.Point.{Point}
 use Rattle.glyphs.specs.declared.rect.Rectangle.{Rectangle}
 use Rattle.sheet.specs.Sheet.{Placement, placement_bytes}
+use Rattle.deepest.specs.declared.search.Deepest.{Deepest}
+use Rattle.discs.specs.declared.radius.Size.{Size}
 use Rattle.discs.specs.declared.options.GlyphOptions.{GlyphOptions}
-use Rattle.discs.specs.declared.radius.Sizing.{Sizing}
-use Rattle.discs.specs.declared.radius.Sizing.TheVariants.{Unplaced, At}
 use Rattle.discs.specs.declared.rows.Row.{Row}
 use Rattle.discs.specs.declared.rows.Offsets.{Offsets}
 use Rattle.discs.specs.Region.{placed_in}
@@ -18,11 +18,11 @@ use Rattle.discs.specs.Floor.{Handed, handed_at, pack_handed, row_is_left_in}
 use Rattle.relax.specs.Scatter.{source}
 
 -- the spots of each piece of a zone; none without a size
-unfoldable pub place_for : Sizing → GlyphOptions → List Rectangle → Handed → List (List Point)
-place_for Unplaced options obstacles handed = []
-place_for (At size) options obstacles handed = pack_handed source options (context_at options (pack options) size.radius) obstacles handed
+unfoldable pub place_for : Option Size → GlyphOptions → List Rectangle → Handed → List (List Point)
+place_for None options obstacles handed = []
+place_for (Some size) options obstacles handed = pack_handed source options (context_at options (pack options) size.radius) obstacles handed
 
-unfoldable pub placement_for : Sizing → GlyphOptions → List Rectangle → Handed → Placement
+unfoldable pub placement_for : Option Size → GlyphOptions → List Rectangle → Handed → Placement
 placement_for sizing options obstacles handed =
     record {
       key = handed.zone.key;
@@ -30,7 +30,7 @@ placement_for sizing options obstacles handed =
       spots = flat (flatten (place_for sizing options obstacles handed));
     }
 
-module _ (sizing : Sizing) (options : GlyphOptions) (obstacles : List Rectangle) (s rings sizes : List ℕ) (coords : List Float) (quotas : List ℕ) (deepest : List Float) where
+module _ (sizing : Option Size) (options : GlyphOptions) (obstacles : List Rectangle) (s rings sizes : List ℕ) (coords : List Float) (quotas : List ℕ) (deepest : List Deepest) where
   abbrev pub spots_at : Row → Offsets → List (List Point)
   spots_at row at = place_for sizing options obstacles (handed_at s rings sizes coords quotas deepest row at)
 

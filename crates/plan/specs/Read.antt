@@ -1,6 +1,6 @@
 -- What the reader leaves is the job's zones, and what the pre-pass finds over the rows is found over the zones: row 15 is the definition's.
 -- Rests on the rows being the zones', and on one zone's share of each slice.
-use Rattle.std.specs.Prelude.{ℕ, ◌+◌, ◌<◌, ◌≡◌, Bool, true, false, length, drop, Float}
+use Rattle.std.specs.Prelude.{ℕ, ◌+◌, ◌≡◌, Bool, true, false, length, drop, Float}
 use Rattle.std.proofs.Math.Path.{refl}
 use mathlib.Core.List.{List, [], ◌∷◌, flat_map}
 use Rattle.std.proofs.Common.{arith}
@@ -10,21 +10,23 @@ use Rattle.regions.specs.Ring.{Piece}
 use Rattle.format.specs.Rows.{◌unless◌}
 use Rattle.format.specs.Numbers.{u16}
 use Rattle.format.specs.RowLaws.{length_each}
+use Rattle.deepest.specs.declared.search.Deepest.{Deepest}
+use Rattle.discs.specs.declared.rows.Row.{Row}
 use Rattle.discs.specs.declared.options.GlyphOptions.{GlyphOptions}
 use Rattle.discs.specs.declared.rows.Offsets.{Offsets}
 use Rattle.discs.specs.Region.{Zone, quotas}
 use Rattle.discs.specs.PlaceGlyphs.{is_left_in, work_of}
 use Rattle.discs.specs.Searches.{searches_in, had_room}
-use Rattle.discs.specs.Floor.{row_of, past_row, start}
+use Rattle.discs.specs.Floor.{past_row, start}
 use Rattle.job.specs.Zones.{zone, zone_end}
 use Rattle.job.specs.Job.{Job, zones_at, zones, items_fault, job_of, coords_of, sizes_of, rings_of, rows_of}
-use Rattle.job.specs.Rows.{rows_are}
+use Rattle.job.specs.Rows.{AreRows, rows_are}
 use Rattle.job.proofs.Known.{job_known}
 use Rattle.job.specs.Plan.{search_fault}
 use Rattle.plan.specs.Found.{found_for, found_in}
-use Rattle.plan.specs.Rows.{flat_rows, all_rows, found_at, fits_at, threes_at}
+use Rattle.plan.specs.Rows.{flat_rows, all_rows, fits_at, found_at}
 use Rattle.plan.specs.Left.{Left, own_pieces, own_left_in, left_next}
-use Rattle.plan.specs.Own.{found_of, threes_of, Filled, own_shares, filled_next}
+use Rattle.plan.specs.Own.{found_of, Filled, own_shares, filled_next}
 
 pub zone_count : (s : List ℕ) → length (zones s) ≡ u16 s (zones_at s)
 unfolding zones
@@ -32,12 +34,12 @@ zone_count s = length_each (zone_end s) (zone s) (u16 s (zones_at s)) (zones_at 
 
 -- the slices that the reader leaves
 pub left_read :
-    (s : List ℕ) → items_fault s ≡ 0 → (rows rings sizes : List ℕ) (coords : List Float)
-    → Left s (written (rows_of s) rows) (written (rings_of (zones s)) rings) (written (sizes_of (zones s)) sizes) (written (coords_of (zones s)) coords) (zones s) 0 start
+    (s : List ℕ) → items_fault s ≡ 0 → (rings sizes : List ℕ) (coords : List Float)
+    → Left s (rows_of s) (written (rings_of (zones s)) rings) (written (sizes_of (zones s)) sizes) (written (coords_of (zones s)) coords) (zones s) start
 unfolding written
-left_read s ok rows rings sizes coords =
+left_read s ok rings sizes coords =
     record {
-      is_row = λ (d : Zone) (i : ℕ) (h : i < length (zones s)). let e : 0 + i ≡ i = omega arith in rw e (rows_are s ok rows d i (omega (arith, zone_count s)));
+      are_rows = rows_are s ok;
       rest_rings = drop (length (rings_of (zones s))) rings;
       rest_sizes = drop (length (sizes_of (zones s))) sizes;
       rest_coords = drop (length (coords_of (zones s))) coords;
@@ -50,29 +52,33 @@ left_read s ok rows rings sizes coords =
       known = unfold job_of in (job_known s ok).zones;
     }
 
-module _ (options : GlyphOptions) (s rows rings sizes : List ℕ) (coords : List Float) (shares : List ℕ) (deepest : List Float) where
+module _ (options : GlyphOptions) (s rings sizes : List ℕ) (coords : List Float) (shares : List ℕ) (deepest : List Deepest) where
   found_own :
-      (zone : Zone) (zones : List Zone) (z : ℕ) (at : Offsets) → Left s rows rings sizes coords (zone ∷ zones) z at → Filled options shares deepest (zone ∷ zones) at
-      → found_at rings sizes coords options shares (row_of rows z) at ≡ found_of options zone
+      (row : Row) (rows : List Row) (zone : Zone) (zones : List Zone) (at : Offsets) → Left s (row ∷ rows) rings sizes coords (zone ∷ zones) at → Filled options shares deepest (zone ∷ zones) at
+      → found_at rings sizes coords options shares row at ≡ found_of options zone
   unfolding found_at found_of
-  found_own zone zones z at l f =
-      rw (own_left_in s rows rings sizes coords zone zones z at l, own_pieces s rows rings sizes coords zone zones z at l, own_shares options s rows rings sizes coords shares deepest zone zones z at l f)
+  found_own row rows zone zones at l f =
+      rw (own_left_in s row rows rings sizes coords zone zones at l, own_pieces s row rows rings sizes coords zone zones at l, own_shares options s row rows rings sizes coords shares deepest zone zones at l f)
 
-  pub threes_are :
-      (zones : List Zone) (z : ℕ) (at : Offsets) → Left s rows rings sizes coords zones z at → Filled options shares deepest zones at
-      → flat_rows rows rings sizes (threes_at rings sizes coords options shares) (length zones) z at ≡ flat_map (threes_of options) zones
-  unfolding flat_rows flat_map threes_at
-  threes_are [] z at l f = refl
-  threes_are (zone ∷ zones) z at l f =
-      rw (found_own zone zones z at l f, threes_are zones (z + 1) (past_row rings sizes (row_of rows z) at) (left_next s rows rings sizes coords zone zones z at l) (filled_next options s rows rings sizes coords shares deepest zone zones z at l f))
+  pub founds_are :
+      (rows : List Row) (zones : List Zone) (at : Offsets) → Left s rows rings sizes coords zones at → Filled options shares deepest zones at
+      → flat_rows rings sizes (found_at rings sizes coords options shares) rows at ≡ flat_map (found_of options) zones
+  unfolding flat_rows flat_map AreRows
+  founds_are [] [] at l f = refl
+  founds_are [] (zone ∷ zones) at l f = absurd l.are_rows
+  founds_are (row ∷ rows) [] at l f = absurd l.are_rows
+  founds_are (row ∷ rows) (zone ∷ zones) at l f =
+      rw (found_own row rows zone zones at l f, founds_are rows zones (past_row rings sizes row at) (left_next s row rows rings sizes coords zone zones at l) (filled_next options s row rows rings sizes coords shares deepest zone zones at l f))
 
   pub fits_are :
-      (zones : List Zone) (z : ℕ) (at : Offsets) → Left s rows rings sizes coords zones z at → Filled options shares deepest zones at
-      → all_rows rows rings sizes (fits_at rings sizes coords options shares) (length zones) z at ≡ all (λ (zone : Zone). all had_room (found_of options zone)) zones
-  unfolding all_rows all fits_at
-  fits_are [] z at l f = refl
-  fits_are (zone ∷ zones) z at l f =
-      rw (found_own zone zones z at l f, fits_are zones (z + 1) (past_row rings sizes (row_of rows z) at) (left_next s rows rings sizes coords zone zones z at l) (filled_next options s rows rings sizes coords shares deepest zone zones z at l f))
+      (rows : List Row) (zones : List Zone) (at : Offsets) → Left s rows rings sizes coords zones at → Filled options shares deepest zones at
+      → all_rows rings sizes (fits_at rings sizes coords options shares) rows at ≡ all (λ (zone : Zone). all had_room (found_of options zone)) zones
+  unfolding all_rows all fits_at AreRows
+  fits_are [] [] at l f = refl
+  fits_are [] (zone ∷ zones) at l f = absurd l.are_rows
+  fits_are (row ∷ rows) [] at l f = absurd l.are_rows
+  fits_are (row ∷ rows) (zone ∷ zones) at l f =
+      rw (found_own row rows zone zones at l f, fits_are rows zones (past_row rings sizes row at) (left_next s row rows rings sizes coords zone zones at l) (filled_next options s row rows rings sizes coords shares deepest zone zones at l f))
 
 -- ---- row 15
 

@@ -1,8 +1,8 @@
 -- The walk over a job's zones in flat slices: what is put and asked for each, and what is known of each. Definitions, and one turn of the walk.
 -- Rests on the kit's laws of lists.
-use Rattle.std.specs.Prelude.{ℕ, zero, suc, ◌+◌, ◌-◌, ◌*◌, ◌<◌, ◌≤◌, ◌≡◌, refl, Bool, true, false, ◌&&◌, take, drop, Float}
-use Rattle.std.proofs.Common.{ap, ◌∙◌, arith, length-drop, length-take-le}
-use mathlib.Core.List.{List, [], ◌∷◌, ◌++◌, flat_map}
+use Rattle.std.specs.Prelude.{ℕ, suc, ◌+◌, ◌-◌, ◌<◌, ◌≤◌, ◌≡◌, refl, Bool, true, false, ◌&&◌, take, drop, Float}
+use Rattle.std.proofs.Common.{ap, ◌∙◌, arith, add-one, drop-cons, drop_of_length-le, length-drop, length-take-le, get_or}
+use mathlib.Core.List.{List, [], ◌∷◌, ◌++◌}
 use Rattle.std.proofs.Math.ListN.{length, length-append}
 use Rattle.std.proofs.lemmas.List.Edits.{sets}
 use Rattle.laws.specs.Any.{all}
@@ -16,9 +16,10 @@ use Rattle.discs.specs.declared.rows.Offsets.{Offsets}
 use Rattle.discs.specs.Region.{areas}
 use Rattle.discs.specs.Pieces.{pieces_of, Laid}
 use Rattle.discs.specs.Searches.{had_room}
-use Rattle.discs.specs.Floor.{row_of, row_is_left_in, cut, past_row, EachRow}
-use Rattle.plan.specs.Found.{found_in, all_three}
-use Rattle.plan.specs.Walk.{length_three, length_pieces}
+use Rattle.discs.specs.Floor.{row_is_left_in, cut, past_row, EachRow}
+use Rattle.job.specs.Job.{row_room, rows_room}
+use Rattle.plan.specs.Found.{found_in}
+use Rattle.plan.specs.Walk.{length_pieces}
 use Rattle.plan.specs.Shares.{length_apportion, length_areas}
 
 -- a zone's pieces lie within the slices, and they and its marks are few
@@ -30,16 +31,16 @@ pub record Readable (rings sizes : List ℕ) (coords : List Float) (row : Row) (
   pub few : row.pieces ≤ 16
   pub marks : row.count ≤ 2000
 
-module _ (rows rings sizes : List ℕ) where
-  -- what n zones from the row z on have, end to end
-  unfoldable pub flat_rows : {A : Type 0} → (Row → Offsets → List A) → ℕ → ℕ → Offsets → List A
-  flat_rows view zero z at = []
-  flat_rows view (suc n) z at = view (row_of rows z) at ++ flat_rows view n (z + 1) (past_row rings sizes (row_of rows z) at)
+module _ (rings sizes : List ℕ) where
+  -- what the zones of these rows have, end to end
+  unfoldable pub flat_rows : {A : Type 0} → (Row → Offsets → List A) → List Row → Offsets → List A
+  flat_rows view [] at = []
+  flat_rows view (row ∷ rows) at = view row at ++ flat_rows view rows (past_row rings sizes row at)
 
   -- whether a test holds of each
-  unfoldable pub all_rows : (Row → Offsets → Bool) → ℕ → ℕ → Offsets → Bool
-  all_rows test zero z at = true
-  all_rows test (suc n) z at = test (row_of rows z) at && all_rows test n (z + 1) (past_row rings sizes (row_of rows z) at)
+  unfoldable pub all_rows : (Row → Offsets → Bool) → List Row → Offsets → Bool
+  all_rows test [] at = true
+  all_rows test (row ∷ rows) at = test row at && all_rows test rows (past_row rings sizes row at)
 
 module _ (rings sizes : List ℕ) (coords : List Float) where
   abbrev pub pieces_at : Row → Offsets → List Piece
@@ -56,9 +57,6 @@ module _ (rings sizes : List ℕ) (coords : List Float) where
   unfoldable pub fits_at : GlyphOptions → List ℕ → Row → Offsets → Bool
   fits_at options quotas row at = all had_room (found_at options quotas row at)
 
-  unfoldable pub threes_at : GlyphOptions → List ℕ → Row → Offsets → List Float
-  threes_at options quotas row at = all_three (found_at options quotas row at)
-
 -- ---- laws
 
 -- the part of a slice that code takes from p to p + n
@@ -74,11 +72,6 @@ length_found options left_in [] quotas h = refl
 length_found options left_in (piece ∷ pieces) [] h = absurd (omega arith)
 length_found options left_in (piece ∷ pieces) (quota ∷ quotas) h = ap suc (length_found options left_in pieces quotas (omega arith))
 
-pub length_threes : (founds : List Deepest) → length (all_three founds) ≡ length founds * 3
-unfolding flat_map
-length_threes [] = refl
-length_threes (found ∷ founds) = simp length-append (omega (arith, length_three found, length_threes founds))
-
 module _ (rings sizes : List ℕ) (coords : List Float) (row : Row) (at : Offsets) (h : at.piece + row.pieces ≤ length rings) where
   pub length_shares : length (shares_at rings sizes coords row at) ≡ row.pieces
   unfolding shares_at
@@ -87,63 +80,79 @@ module _ (rings sizes : List ℕ) (coords : List Float) (row : Row) (at : Offset
       ∙ length_areas (cut at.piece row.pieces rings) (drop at.ring sizes) (drop at.coord coords)
       ∙ length_cut at.piece row.pieces rings h
 
-  pub length_threes_at : (options : GlyphOptions) (quotas : List ℕ) → at.piece + row.pieces ≤ length quotas → length (threes_at rings sizes coords options quotas row at) ≡ row.pieces * 3
-  unfolding threes_at found_at
-  length_threes_at options quotas q =
+  pub length_found_at : (options : GlyphOptions) (quotas : List ℕ) → at.piece + row.pieces ≤ length quotas → length (found_at rings sizes coords options quotas row at) ≡ row.pieces
+  unfolding found_at
+  length_found_at options quotas q =
       let p : length (pieces_at rings sizes coords row at) ≡ row.pieces = length_pieces (cut at.piece row.pieces rings) (drop at.ring sizes) (drop at.coord coords) ∙ length_cut at.piece row.pieces rings h in
       let n = length_cut at.piece row.pieces quotas q in
-      omega (arith, p, n, length_threes (found_in options (row_is_left_in row) (pieces_at rings sizes coords row at) (cut at.piece row.pieces quotas)), length_found options (row_is_left_in row) (pieces_at rings sizes coords row at) (cut at.piece row.pieces quotas) (omega arith))
+      length_found options (row_is_left_in row) (pieces_at rings sizes coords row at) (cut at.piece row.pieces quotas) (omega arith) ∙ p
 
 pub past_piece : (rings sizes : List ℕ) (row : Row) (at : Offsets) → (past_row rings sizes row at).piece ≡ at.piece + row.pieces
 unfolding past_row
 past_piece rings sizes row at = refl
 
-next_row : (z n : ℕ) → z < n → n - z ≡ suc (n - (z + 1))
-next_row z n h = omega arith
+-- what is read past the end
+abbrev pub no_row : Row
+no_row = record { key = 0; len = 0; count = 0; pieces = 0 }
 
-no_row : (z n : ℕ) → n ≤ z → n - z ≡ 0
-no_row z n h = omega arith
+module _ (rings sizes : List ℕ) (rows : List Row) (k : ℕ) (at : Offsets) where
+  abbrev row : Row
+  row = get_or rows k no_row
 
-module _ (rows rings sizes : List ℕ) (z n : ℕ) (at : Offsets) where
-  module _ (row : Row) (h : z < n) (e : row ≡ row_of rows z) where
-    pub each_turn :
-        (P : Row → Offsets → Type 0) → EachRow rows rings sizes P (n - z) z at → P row at × EachRow rows rings sizes P (n - (z + 1)) (z + 1) (past_row rings sizes row at)
+  abbrev rest : List Row
+  rest = drop (k + 1) rows
+
+  module _ (h : k < length rows) where
+    first : drop k rows ≡ get_or rows k no_row ∷ drop (k + 1) rows
+    first = rw (add-one k) (drop-cons rows k no_row h)
+
+    pub each_turn : (P : Row → Offsets → Type 0) → EachRow rings sizes P (drop k rows) at → P (get_or rows k no_row) at × EachRow rings sizes P (drop (k + 1) rows) (past_row rings sizes (get_or rows k no_row) at)
     unfolding EachRow
-    each_turn P r = rw e (rw (next_row z n h) at r)
+    each_turn P r = rw first at r
 
     pub flat_turn :
-        {A : Type 0} {x : List A} (view : Row → Offsets → List A) (l next : List A) (k m : ℕ) → m ≡ k + length (view row at) → next ≡ sets l k (view row at)
-        → x ≡ sets l k (flat_rows rows rings sizes view (n - z) z at) → x ≡ sets next m (flat_rows rows rings sizes view (n - (z + 1)) (z + 1) (past_row rings sizes row at))
+        {A : Type 0} {x : List A} (view : Row → Offsets → List A) (l next : List A) (j m : ℕ) → m ≡ j + length (view (get_or rows k no_row) at) → next ≡ sets l j (view (get_or rows k no_row) at)
+        → x ≡ sets l j (flat_rows rings sizes view (drop k rows) at) → x ≡ sets next m (flat_rows rings sizes view (drop (k + 1) rows) (past_row rings sizes (get_or rows k no_row) at))
     unfolding flat_rows
-    flat_turn view l next k m i f g =
-        g ∙ rw (next_row z n h, ← e) (sets_append l k (view row at) (flat_rows rows rings sizes view (n - (z + 1)) (z + 1) (past_row rings sizes row at)) ∙ rw (f, i))
+    flat_turn view l next j m i f g =
+        g ∙ rw first (sets_append l j (view row at) (flat_rows rings sizes view rest (past_row rings sizes row at)) ∙ rw (f, i))
 
     pub length_turn :
-        {A : Type 0} {x : ℕ} (view : Row → Offsets → List A) (k m : ℕ) → m ≡ k + length (view row at)
-        → x ≡ k + length (flat_rows rows rings sizes view (n - z) z at) → x ≡ m + length (flat_rows rows rings sizes view (n - (z + 1)) (z + 1) (past_row rings sizes row at))
+        {A : Type 0} {x : ℕ} (view : Row → Offsets → List A) (j m : ℕ) → m ≡ j + length (view (get_or rows k no_row) at)
+        → x ≡ j + length (flat_rows rings sizes view (drop k rows) at) → x ≡ m + length (flat_rows rings sizes view (drop (k + 1) rows) (past_row rings sizes (get_or rows k no_row) at))
     unfolding flat_rows
-    length_turn view k m i g =
-        let r = flat_rows rows rings sizes view (n - (z + 1)) (z + 1) (past_row rings sizes row at) in
-        g ∙ rw (next_row z n h, ← e) (omega (arith, length-append (view row at) r, i))
+    length_turn view j m i g =
+        let r = flat_rows rings sizes view rest (past_row rings sizes row at) in
+        g ∙ rw first (omega (arith, length-append (view row at) r, i))
 
     pub all_turn :
-        {x : Bool} (test : Row → Offsets → Bool) → test row at ≡ true → x ≡ all_rows rows rings sizes test (n - z) z at
-        → x ≡ all_rows rows rings sizes test (n - (z + 1)) (z + 1) (past_row rings sizes row at)
+        {x : Bool} (test : Row → Offsets → Bool) → test (get_or rows k no_row) at ≡ true → x ≡ all_rows rings sizes test (drop k rows) at
+        → x ≡ all_rows rings sizes test (drop (k + 1) rows) (past_row rings sizes (get_or rows k no_row) at)
     unfolding all_rows
-    all_turn test f g = g ∙ rw (next_row z n h, ← e, f)
+    all_turn test f g = g ∙ rw (first, f)
 
-    pub all_stop : {x : Bool} (test : Row → Offsets → Bool) → test row at ≡ false → x ≡ all_rows rows rings sizes test (n - z) z at → x ≡ false
+    pub all_stop : {x : Bool} (test : Row → Offsets → Bool) → test (get_or rows k no_row) at ≡ false → x ≡ all_rows rings sizes test (drop k rows) at → x ≡ false
     unfolding all_rows
-    all_stop test f g = g ∙ rw (next_row z n h, ← e, f)
+    all_stop test f g = g ∙ rw (first, f)
 
-  pub flat_end : {A : Type 0} {x : List A} (view : Row → Offsets → List A) (l : List A) (k : ℕ) → n ≤ z → x ≡ sets l k (flat_rows rows rings sizes view (n - z) z at) → x ≡ l
-  unfolding flat_rows
-  flat_end view l k h g = g ∙ rw (no_row z n h)
+  module _ (h : length rows ≤ k) where
+    pub flat_end : {A : Type 0} {x : List A} (view : Row → Offsets → List A) (l : List A) (j : ℕ) → x ≡ sets l j (flat_rows rings sizes view (drop k rows) at) → x ≡ l
+    unfolding flat_rows
+    flat_end view l j g = g ∙ rw (drop_of_length-le rows h)
 
-  pub length_end : {A : Type 0} {x : ℕ} (view : Row → Offsets → List A) (k : ℕ) → n ≤ z → x ≡ k + length (flat_rows rows rings sizes view (n - z) z at) → x ≡ k
-  unfolding flat_rows
-  length_end view k h g = g ∙ rw (no_row z n h) (omega arith)
+    pub length_end : {A : Type 0} {x : ℕ} (view : Row → Offsets → List A) (j : ℕ) → x ≡ j + length (flat_rows rings sizes view (drop k rows) at) → x ≡ j
+    unfolding flat_rows
+    length_end view j g = g ∙ rw (drop_of_length-le rows h) (omega arith)
 
-  pub all_end : {x : Bool} (test : Row → Offsets → Bool) → n ≤ z → x ≡ all_rows rows rings sizes test (n - z) z at → x ≡ true
-  unfolding all_rows
-  all_end test h g = g ∙ rw (no_row z n h)
+    pub all_end : {x : Bool} (test : Row → Offsets → Bool) → x ≡ all_rows rings sizes test (drop k rows) at → x ≡ true
+    unfolding all_rows
+    all_end test g = g ∙ rw (drop_of_length-le rows h)
+
+-- one turn over the rooms
+pub rooms_turn : (rows : List Row) (k : ℕ) → k < length rows → rows_room (drop k rows) ≡ row_room (get_or rows k no_row) + rows_room (drop (k + 1) rows)
+unfolding rows_room
+rooms_turn rows k h = rw (add-one k, drop-cons rows k no_row h)
+
+pub rooms_end : (rows : List Row) (k : ℕ) → length rows ≤ k → rows_room (drop k rows) ≡ 0
+unfolding rows_room
+rooms_end rows k h = rw (drop_of_length-le rows h)

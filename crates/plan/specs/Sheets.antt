@@ -1,7 +1,7 @@
 -- The sheet that the code puts, zones first and the head before them, is the definition's.
 -- Rests on the laws of a sheet's bytes.
-use Prim.Native.Nat.{ℕ, zero, suc, ◌+◌, ◌-◌, ◌≤◌}
-use Rattle.std.specs.Prelude.{◌≡◌, length, Float}
+use Prim.Native.Nat.{ℕ, ◌+◌, ◌-◌, ◌≤◌}
+use Rattle.std.specs.Prelude.{◌≡◌, length, Float, Option}
 use Rattle.std.proofs.Math.Path.{refl}
 use Rattle.std.proofs.Common.{sym, ap, ◌∙◌, arith, length-append}
 use mathlib.Core.List.{List, [], ◌∷◌, ◌++◌, append_assoc, flat_map}
@@ -11,10 +11,12 @@ use Rattle.glyphs.specs.declared.rect.Rectangle.{Rectangle}
 use Rattle.sheet.specs.Sheet.{Placement, placement_bytes, sheet_head, sheet_of}
 use Rattle.sheet.specs.Back.{length_sheet_head}
 use Rattle.sheet.proofs.Laws.{put_sheet}
+use Rattle.deepest.specs.declared.search.Deepest.{Deepest}
+use Rattle.discs.specs.declared.rows.Row.{Row}
+use Rattle.discs.specs.declared.radius.Size.{Size}
 use Rattle.discs.specs.declared.options.GlyphOptions.{GlyphOptions}
-use Rattle.discs.specs.declared.radius.Sizing.{Sizing}
 use Rattle.discs.specs.declared.rows.Offsets.{Offsets}
-use Rattle.discs.specs.Floor.{row_of, past_row}
+use Rattle.discs.specs.Floor.{past_row}
 use Rattle.plan.specs.Rows.{flat_rows}
 use Rattle.plan.specs.Placing.{placed_at, bytes_at, Put}
 
@@ -23,16 +25,16 @@ unfolding flat_map
 flat_join f [] ys = refl
 flat_join f (x ∷ xs) ys = ap (λ (t : List _). f x ++ t) (flat_join f xs ys) ∙ sym (append_assoc (f x) (flat_map f xs) (flat_map f ys))
 
-module _ (sizing : Sizing) (options : GlyphOptions) (obstacles : List Rectangle) (s rows rings sizes : List ℕ) (coords : List Float) (quotas : List ℕ) (deepest : List Float) where
+module _ (sizing : Option Size) (options : GlyphOptions) (obstacles : List Rectangle) (s rings sizes : List ℕ) (coords : List Float) (quotas : List ℕ) (deepest : List Deepest) where
   pub bytes_flat :
-      (n z : ℕ) (at : Offsets)
-      → flat_rows rows rings sizes (bytes_at sizing options obstacles s rings sizes coords quotas deepest) n z at
-      ≡ flat_map placement_bytes (flat_rows rows rings sizes (placed_at sizing options obstacles s rings sizes coords quotas deepest) n z at)
+      (rows : List Row) (at : Offsets)
+      → flat_rows rings sizes (bytes_at sizing options obstacles s rings sizes coords quotas deepest) rows at
+      ≡ flat_map placement_bytes (flat_rows rings sizes (placed_at sizing options obstacles s rings sizes coords quotas deepest) rows at)
   unfolding flat_rows bytes_at
-  bytes_flat zero z at = unfold flat_map in refl
-  bytes_flat (suc n) z at =
-      rw (bytes_flat n (z + 1) (past_row rings sizes (row_of rows z) at))
-      (sym (flat_join placement_bytes (placed_at sizing options obstacles s rings sizes coords quotas deepest (row_of rows z) at) (flat_rows rows rings sizes (placed_at sizing options obstacles s rings sizes coords quotas deepest) n (z + 1) (past_row rings sizes (row_of rows z) at))))
+  bytes_flat [] at = unfold flat_map in refl
+  bytes_flat (row ∷ rows) at =
+      rw (bytes_flat rows (past_row rings sizes row at))
+      (sym (flat_join placement_bytes (placed_at sizing options obstacles s rings sizes coords quotas deepest row at) (flat_rows rings sizes (placed_at sizing options obstacles s rings sizes coords quotas deepest) rows (past_row rings sizes row at))))
 
 pub sheet_long : (radius : Float) (zones : List Placement) → length (sheet_of (record { radius = radius; zones = zones })) ≡ 15 + length (flat_map placement_bytes zones)
 unfolding sheet_of

@@ -1,10 +1,9 @@
--- A deepest point that was found with room comes back from its three floats: its clearance is above 0.
+-- A deepest point that was found with room has a clearance above 0.
 -- Rests on the definition of the search.
 use Prim.Native.Nat.{ℕ, zero, suc, ◌+◌}
 use Rattle.std.specs.Prelude.{◌≡◌, Bool, true, false, cond, ◌||◌, length, ltb, Float}
 use Rattle.std.proofs.Math.Path.{refl}
-use Rattle.std.proofs.Common.{ap, ◌∙◌}
-use mathlib.Core.List.{List, [], ◌∷◌, ◌++◌, flat_map}
+use mathlib.Core.List.{List, [], ◌∷◌}
 use Rattle.std.specs.Float.Ieee
 use Rattle.laws.specs.Any.{all}
 use Rattle.laws.specs.Truth.{both_true}
@@ -15,14 +14,14 @@ use Rattle.glyphs.specs.Bounds.{extents_of}
 use Rattle.glyphs.specs.declared.bounds.Extents.{Extents}
 use Rattle.regions.specs.Ring.{Piece, outer}
 use Rattle.deepest.specs.Order.{halves_from}
-use Rattle.deepest.specs.Deepest.{Grid, waiting, over, heft, sum_over, better_of, answer_of, first_corner, splits_at, grid_from, enter_four, turns, finish, centre_of, search_in, deepest_point}
+use Rattle.deepest.specs.Deepest.{Grid, waiting, over, heft, sum_over, better_of, answer_of, first_corner, splits_at, grid_from, enter_four, turns, finish, centre_of, search_in, deepest_point, deeper_of, poi_with_holes}
 use Rattle.deepest.specs.declared.queue.Cell.{Cell}
 use Rattle.deepest.specs.declared.search.Best.{Best}
 use Rattle.deepest.specs.declared.search.Deepest.{Deepest}
 use Rattle.deepest.specs.declared.search.Deepest.TheVariants.{Found, Nothing, Full}
-use Rattle.discs.specs.Searches.{had_room}
-use Rattle.discs.specs.Pieces.{deepest_from, deepests_of}
-use Rattle.plan.specs.Found.{three_of, all_three}
+use Rattle.discs.specs.Region.{deepest_of}
+use Rattle.discs.specs.Searches.{is_searched, searched, searches_in, had_room}
+use Rattle.discs.specs.declared.options.GlyphOptions.{GlyphOptions}
 use Rattle.plan.specs.Walk.{never}
 
 -- it has room and a clearance above 0, or is none
@@ -88,21 +87,16 @@ point_sound room precision piece =
     sound_cond (ltb (vertices (outer piece)) 3) Nothing (cond (width ≤ᶠ 0ᶠ || height ≤ᶠ 0ᶠ) Nothing found) sound_nothing
     (sound_cond (width ≤ᶠ 0ᶠ || height ≤ᶠ 0ᶠ) Nothing found sound_nothing (search_sound piece precision room e (min width height)))
 
--- ---- read back
+module _ (options : GlyphOptions) where
+  searched_sound : (piece : Piece) (quota : ℕ) → Sound (searched 1600 options piece quota)
+  unfolding searched poi_with_holes deeper_of
+  searched_sound piece quota =
+      sound_cond (is_searched options.radius options.arrangement piece quota) (deepest_of 1600 options piece) Nothing (point_sound 1600 options.precision piece) sound_nothing
 
-no_clearance : 0ᶠ >ᶠ 0ᶠ ≡ false
-unfolding Ieee.lt Ieee.of_bits Ieee.of_fields Ieee.odd
-no_clearance = refl
-
-one_back : (d : Deepest) (l : List Float) → sound d ≡ true → deepests_of (three_of d ++ l) ≡ d ∷ deepests_of l
-unfolding three_of deepests_of deepest_from sound
-one_back Full l h = absurd (never h)
-one_back Nothing l h = rw no_clearance
-one_back (Found x y clearance) l h = rw h
-
-pub points_back : (ds : List Deepest) → all sound ds ≡ true → deepests_of (all_three ds) ≡ ds
-unfolding all flat_map
-points_back [] h = unfold deepests_of in refl
-points_back (d ∷ ds) h =
-    let p = both_true (sound d) (all sound ds) h in
-    one_back d (all_three ds) p.0 ∙ ap (λ (t : List Deepest). d ∷ t) (points_back ds p.1)
+  pub all_sound : (pieces : List Piece) (shares : List ℕ) → all had_room (searches_in 1600 options pieces shares) ≡ true → all sound (searches_in 1600 options pieces shares) ≡ true
+  unfolding all searches_in
+  all_sound [] shares h = refl
+  all_sound (piece ∷ pieces) [] h = refl
+  all_sound (piece ∷ pieces) (share ∷ shares) h =
+      let p = both_true (had_room (searched 1600 options piece share)) (all had_room (searches_in 1600 options pieces shares)) h in
+      rw (searched_sound piece share p.0, all_sound pieces shares p.1)

@@ -1,6 +1,6 @@
 -- The sheet made of a job's zones as they lie in the slices is the definition's: its radius, its zones, and the trials made for it.
 -- Rests on the size and the zones put being the definition's, and on a stated radius being a number that is not negative.
-use Rattle.std.specs.Prelude.{ℕ, zero, suc, ◌*◌, ◌^◌, ◌<◌, ◌≤◌, Bool, cond, ◌&&◌, T, eqb, Float}
+use Rattle.std.specs.Prelude.{ℕ, zero, suc, ◌*◌, ◌^◌, ◌<◌, ◌≤◌, Bool, cond, ◌&&◌, T, eqb, Float, None, Some, Option}
 use Rattle.std.proofs.Math.Path.{◌≡◌, refl, ap}
 use Rattle.std.proofs.Common.{sym, ◌∙◌, arith, eqb→eq, pow_pos}
 use Rattle.std.proofs.Math.Bool.{true, false}
@@ -23,14 +23,12 @@ use Rattle.glyphs.specs.declared.rect.Rectangle.{Rectangle}
 use Rattle.format.specs.Numbers.{share}
 use Rattle.format.specs.Exact.{share_exact, share_value}
 use Rattle.sheet.specs.Sheet.{Placement, Sheet}
-use Rattle.discs.specs.declared.ceiling.Chosen.{Chosen}
-use Rattle.discs.specs.declared.ceiling.Chosen.TheVariants.{None, Some}
+use Rattle.deepest.specs.declared.search.Deepest.{Deepest}
+use Rattle.discs.specs.declared.rows.Row.{Row}
 use Rattle.discs.specs.declared.options.GlyphOptions.{GlyphOptions}
 use Rattle.discs.specs.declared.options.Radius.{Radius}
 use Rattle.discs.specs.declared.options.Radius.TheVariants.{Auto, Stated}
 use Rattle.discs.specs.declared.radius.Size.{Size}
-use Rattle.discs.specs.declared.radius.Sizing.{Sizing}
-use Rattle.discs.specs.declared.radius.Sizing.TheVariants.{Unplaced, At}
 use Rattle.discs.specs.Region.{Zone}
 use Rattle.discs.specs.Radius.{if_positive, analytic_r_hi}
 use Rattle.discs.specs.PlaceGlyphs.{Placements, is_left_in, work_of, size_for, pack_at, sizing, stated_radius, place_glyphs}
@@ -55,25 +53,25 @@ use Rattle.plan.specs.Made.{Roomy, ceiling_is, sizing_is}
 -- where there is a size, the packing is the zone's own
 put_own :
     (options : GlyphOptions) (fits : List Rectangle → Float → Bool) (pillars obstacles : List Rectangle) (zone : Zone) → is_left_in zone ≡ true → all had_room (found_of options zone) ≡ true
-    → (radius : Radius) → options.radius ≡ radius → (top : Chosen)
+    → (radius : Radius) → options.radius ≡ radius → (top : Option Float)
     → placement_for (size_for fits pillars radius top) options obstacles (own_of options zone) ≡ placement_of (placed_of (size_for fits pillars radius top) options obstacles zone)
 unfolding size_for
 put_own options fits pillars obstacles zone l h = go
   where
-    none : placement_for Unplaced options obstacles (own_of options zone) ≡ placement_of (placed_of Unplaced options obstacles zone)
+    none : placement_for None options obstacles (own_of options zone) ≡ placement_of (placed_of None options obstacles zone)
     none = unfold placement_for placement_of placed_of place_for in refl
 
-    some : (size : Size) → packs_at options.radius ≡ true → placement_for (At size) options obstacles (own_of options zone) ≡ placement_of (placed_of (At size) options obstacles zone)
-    some size p = place_own (At size) options obstacles zone (packing_own options zone p l h)
+    some : (size : Size) → packs_at options.radius ≡ true → placement_for (Some size) options obstacles (own_of options zone) ≡ placement_of (placed_of (Some size) options obstacles zone)
+    some size p = place_own (Some size) options obstacles zone (packing_own options zone p l h)
 
     stated :
         (r : Float) → options.radius ≡ Stated r → (b : Bool) → (r >ᶠ 0ᶠ && is_finite r) ≡ b → (size : Size)
-        → placement_for (cond b (At size) Unplaced) options obstacles (own_of options zone) ≡ placement_of (placed_of (cond b (At size) Unplaced) options obstacles zone)
+        → placement_for (cond b (Some size) None) options obstacles (own_of options zone) ≡ placement_of (placed_of (cond b (Some size) None) options obstacles zone)
     stated r e true p size = some size (unfold packs_at in rw e (both_true (r >ᶠ 0ᶠ) (is_finite r) p).0)
     stated r e false p size = none
 
     go :
-        (radius : Radius) → options.radius ≡ radius → (top : Chosen)
+        (radius : Radius) → options.radius ≡ radius → (top : Option Float)
         → placement_for (size_for fits pillars radius top) options obstacles (own_of options zone) ≡ placement_of (placed_of (size_for fits pillars radius top) options obstacles zone)
     go Auto e None = unfold size_for in none
     go Auto e (Some r-hi) = unfold size_for in some _ (unfold packs_at in rw e)
@@ -119,12 +117,12 @@ module _ (r : Float) (s : Shares 0 1048576 r) where
       go (suc n) h i = absurd (never (sym e ∙ rw i (share_some n h)))
 
   stated_size :
-      (fits : List Rectangle → Float → Bool) (pillars : List Rectangle) (top : Chosen)
+      (fits : List Rectangle → Float → Bool) (pillars : List Rectangle) (top : Option Float)
       → ◌≡◌ {A = Size} (size_of (size_for fits pillars (Stated r) top)) (record { radius = max r 0ᶠ; free_trials = 0; obstacle_trials = 0 })
   unfolding size_for size_of
   stated_size fits pillars top = rw (finite_is r stated_num, max_zero_same r stated_num stated_nonneg) (go (r >ᶠ 0ᶠ) refl)
     where
-      go : (b : Bool) → r >ᶠ 0ᶠ ≡ b → ◌≡◌ {A = Size} (size_of (cond (b && true) (At (record { radius = r; free_trials = 0; obstacle_trials = 0 })) Unplaced)) (record { radius = r; free_trials = 0; obstacle_trials = 0 })
+      go : (b : Bool) → r >ᶠ 0ᶠ ≡ b → ◌≡◌ {A = Size} (size_of (cond (b && true) (Some (record { radius = r; free_trials = 0; obstacle_trials = 0 })) None)) (record { radius = r; free_trials = 0; obstacle_trials = 0 })
       go true e = unfold size_of in refl
       go false e = unfold size_of in rw (not_above e)
 
@@ -132,7 +130,7 @@ module _ (r : Float) (s : Shares 0 1048576 r) where
 
 module _ (options : GlyphOptions) (given : List Rectangle) (zones : List Zone) where
   -- radius, trials and zones as the sizing says
-  made : Sizing → Placements
+  made : Option Size → Placements
   made size =
       record {
         radius = (size_of size).radius;
@@ -141,10 +139,10 @@ module _ (options : GlyphOptions) (given : List Rectangle) (zones : List Zone) w
         zones = map (placed_of size options (sanitize_obstacles given)) (work_of zones);
       }
 
-  packed : (size : Sizing) → pack_at room source options given zones size ≡ made size
+  packed : (size : Option Size) → pack_at room source options given zones size ≡ made size
   unfolding pack_at size_of placed_of made
-  packed Unplaced = refl
-  packed (At size) = refl
+  packed None = refl
+  packed (Some size) = refl
 
   size_alone :
       (radius : Radius) → RadiusKnown radius → (fits : List Rectangle → Float → Bool) (gap precision : Float)
@@ -178,25 +176,25 @@ module _ (options : GlyphOptions) (given : List Rectangle) (zones : List Zone) w
 
 -- ---- a job as it lies in the slices, each of whose searches had room
 module _
-    (s rows rings sizes : List ℕ) (coords : List Float) (shares : List ℕ) (deepest : List Float) (job : Job) (k : RadiusKnown job.options.radius) (r : Roomy job.options job.zones)
-    (l : Left s rows rings sizes coords job.zones 0 start) (f : Filled job.options shares deepest job.zones start) where
+    (s : List ℕ) (rows : List Row) (rings sizes : List ℕ) (coords : List Float) (shares : List ℕ) (deepest : List Deepest) (job : Job) (k : RadiusKnown job.options.radius) (r : Roomy job.options job.zones)
+    (l : Left s rows rings sizes coords job.zones start) (f : Filled job.options shares deepest job.zones start) where
   abbrev given : List Rectangle
   given = rectangles job.obstacles
 
-  abbrev pub sized : Sizing
-  sized = sizing_for job.options (sanitize_obstacles (rectangles job.obstacles)) (work_in s (length job.zones) rows rings sizes coords shares deepest)
+  abbrev pub sized : Option Size
+  sized = sizing_for job.options (sanitize_obstacles (rectangles job.obstacles)) (work_in s rows rings sizes coords shares deepest)
 
   abbrev pub put : List Placement
-  put = flat_rows rows rings sizes (placed_at sized job.options (sanitize_obstacles (rectangles job.obstacles)) s rings sizes coords shares deepest) (length job.zones) 0 start
+  put = flat_rows rings sizes (placed_at sized job.options (sanitize_obstacles (rectangles job.obstacles)) s rings sizes coords shares deepest) rows start
 
-  work_is : work_in s (length job.zones) rows rings sizes coords shares deepest ≡ handed_work (map (own_of job.options) job.zones)
-  work_is = ap handed_work (handed_zones job.options s rows rings sizes coords shares deepest job.zones 0 start l f)
+  work_is : work_in s rows rings sizes coords shares deepest ≡ handed_work (map (own_of job.options) job.zones)
+  work_is = ap handed_work (handed_zones job.options s rows rings sizes coords shares deepest job.zones start l f)
 
   size_is : sized ≡ sizing room source job.options given job.zones
   size_is = ap (λ (hs : List Handed). sizing_for job.options (sanitize_obstacles given) hs) work_is ∙ sizing_is job.options job.zones r given
 
   -- row 16
-  pub low_is : low_fault (ceiling_for job.options (work_in s (length job.zones) rows rings sizes coords shares deepest) job.options.radius) ≡ ceiling_fault job
+  pub low_is : low_fault (ceiling_for job.options (work_in s rows rings sizes coords shares deepest) job.options.radius) ≡ ceiling_fault job
   unfolding ceiling_fault
   low_is = ap low_fault (ap (λ (hs : List Handed). ceiling_for job.options hs job.options.radius) work_is ∙ ceiling_is job.options job.zones r)
 
@@ -206,7 +204,7 @@ module _
 
   put_is : put ≡ map placement_of (map (placed_of sized job.options (sanitize_obstacles given)) (work_of job.zones))
   put_is =
-      placed_are sized job.options (sanitize_obstacles given) s rows rings sizes coords shares deepest own job.zones 0 start l f r
+      placed_are sized job.options (sanitize_obstacles given) s rings sizes coords shares deepest own rows job.zones start l f r
       ∙ sym (map-map placement_of (placed_of sized job.options (sanitize_obstacles given)) (work_of job.zones))
     where
       own :

@@ -7,9 +7,5 @@ pub fn clear(work: &mut [f64])
     requires { length work.old ≡ 8000 }
     ensures { work.new ≡ replicate 8000 0ᶠ }
 {
-    let mut i = 0;
-    while i < 8000 {
-        work[i] = 0.0;
-        i += 1;
-    }
+    work.fill(0.0);
 }

@@ -7,16 +7,17 @@ ghost use Rattle.glyphs.specs.Spots.{flat};
 ghost use Rattle.sheet.specs.Sheet.{placement_bytes};
 ghost use Rattle.discs.specs.Region.{placed_in};
 ghost use Rattle.discs.specs.PlaceGlyphs.{pack};
-ghost use Rattle.discs.specs.Floor.{cut, row_is_left_in, EachRow, start, Packable, Floor, Lends};
+ghost use Rattle.discs.specs.Floor.{cut, row_is_left_in, Packable};
 ghost use Rattle.job.specs.Job.{row_room, rows_room};
-ghost use Rattle.plan.specs.Rows.{flat_rows};
+ghost use Rattle.plan.specs.Bundled.{all_bytes, all_placed, AllFair};
 ghost use Rattle.plan.specs.Placing.{spots_at, placed_at, bytes_at, Fair, Put};
 
-use crate::parts::{bytes_at, floats_at, floats_from, numbers_at, numbers_from};
+use crate::parts::part;
+use discs::bundle::{Work, Zones};
 use discs::options::GlyphOptions;
-use discs::radius::Sizing;
+use discs::radius::Size;
 use discs::region::pack_region;
-use discs::rows::{Offsets, Row, get_row, is_left_in, past_row};
+use discs::rows::{Offsets, Row, is_left_in, past_row, pieces_at};
 use discs::trial::context_at;
 use glyphs::mode::PackMode;
 use glyphs::options::ObstaclePolicy;
@@ -36,39 +37,29 @@ fn pack_mode(options: GlyphOptions) -> PackMode
 {
     let policy = options.obstacle_policy;
     match policy {
-        ObstaclePolicy::BestEffort => PackMode {
-            spread: true,
-            strict_obstacles: false,
-        },
+        ObstaclePolicy::BestEffort => PackMode::PACK,
         ObstaclePolicy::Strict => PackMode {
-            spread: true,
             strict_obstacles: true,
+            ..PackMode::PACK
         },
     }
 }
 
-// Packs a zone: its spots to the front of `spots`, and how many they are; none without a size.
+// Packs a zone: its spots to the front of the lent ones, and how many they are; none without a size.
 fn place_zone(
-    sizing: Sizing,
+    sizing: Option<Size>,
     options: GlyphOptions,
     obstacles: &[f64],
-    s: &[u8],
-    rings: &[usize],
-    sizes: &[usize],
-    coords: &[f64],
-    quotas: &[usize],
-    deepest: &[f64],
+    zones: Zones<'_>,
     row: Row,
     at: Offsets,
     near: &mut [f64],
-    second: &mut [f64],
-    flags: &mut [f64],
-    spots: &mut [f64],
+    work: &mut Work<'_>,
 ) -> usize
-    requires { Packable s.now rings.now sizes.now coords.now quotas.now deepest.now row at × Lends obstacles.now near.old second.old flags.old spots.old × (row_is_left_in row ≡ true) }
-    ensures { (result ≡ placed_in (spots_at sizing options (rectangles obstacles.now) s.now rings.now sizes.now coords.now quotas.now deepest.now row at)) × (spots.new ≡ written (flat (flatten (spots_at sizing options (rectangles obstacles.now) s.now rings.now sizes.now coords.now quotas.now deepest.now row at))) spots.old) }
+    requires { Packable zones.bytes.now zones.rings.now zones.sizes.now zones.coords.now zones.quotas.now zones.deepest.now row at × (length obstacles.now ≤ length near.old) × (row_is_left_in row ≡ true) }
+    ensures { (result ≡ placed_in (spots_at sizing options (rectangles obstacles.now) zones.entry.bytes.now zones.entry.rings.now zones.entry.sizes.now zones.entry.coords.now zones.entry.quotas.now zones.entry.deepest.now row at)) × (work.new.spots.now ≡ written (flat (flatten (spots_at sizing options (rectangles obstacles.now) zones.entry.bytes.now zones.entry.rings.now zones.entry.sizes.now zones.entry.coords.now zones.entry.quotas.now zones.entry.deepest.now row at))) work.old.spots.now) }
 {
-    let Sizing::At(size) = sizing else {
+    let Some(size) = sizing else {
         return 0;
     };
     let ctx = context_at(options, pack_mode(options), size.radius);
@@ -77,16 +68,14 @@ fn place_zone(
         options,
         ctx,
         obstacles,
-        bytes_at(s, row.key, row.len),
-        numbers_at(rings, at.piece, row.pieces),
-        numbers_from(sizes, at.ring),
-        floats_from(coords, at.coord),
-        numbers_at(quotas, at.piece, row.pieces),
-        floats_at(deepest, at.piece * 3, row.pieces * 3),
+        part(zones.bytes, row.key, row.len),
+        pieces_at(zones.rings, zones.sizes, zones.coords, row, at),
+        part(zones.quotas, at.piece, row.pieces),
+        part(zones.deepest, at.piece, row.pieces),
         near,
-        second,
-        flags,
-        spots,
+        &mut work.second[..],
+        &mut work.flags[..],
+        &mut work.spots[..],
     )
 }
 
@@ -105,38 +94,29 @@ fn put_placement(
     let from = put_zone(
         &mut sheet[..],
         at,
-        s,
-        row.key,
-        row.len,
+        part(s, row.key, row.len),
         placed,
         row.count - placed,
     );
-    put_spots(&mut sheet[..], from, floats_at(spots, 0, placed * 2));
+    put_spots(&mut sheet[..], from, &spots[..placed * 2]);
     from + 16 * placed
 }
 
 // Packs and puts a zone, where it is left in.
 fn put_row(
-    sizing: Sizing,
+    sizing: Option<Size>,
     options: GlyphOptions,
     obstacles: &[f64],
-    s: &[u8],
-    rings: &[usize],
-    sizes: &[usize],
-    coords: &[f64],
-    quotas: &[usize],
-    deepest: &[f64],
+    zones: Zones<'_>,
     row: Row,
     at: Offsets,
     near: &mut [f64],
-    second: &mut [f64],
-    flags: &mut [f64],
-    spots: &mut [f64],
+    work: &mut Work<'_>,
     sheet: &mut [u8],
     done: Done,
 ) -> Done
-    requires { Packable s.now rings.now sizes.now coords.now quotas.now deepest.now row at × Lends obstacles.now near.old second.old flags.old spots.old × Fair sizing options (rectangles obstacles.now) s.now rings.now sizes.now coords.now quotas.now deepest.now row at × (done.at + row_room row ≤ length sheet.old) × (done.zones ≤ 64) }
-    ensures { Put (bytes_at sizing options (rectangles obstacles.now) s.now rings.now sizes.now coords.now quotas.now deepest.now row at) done.at result.at sheet.old sheet.new × (result.zones ≡ done.zones + length (placed_at sizing options (rectangles obstacles.now) s.now rings.now sizes.now coords.now quotas.now deepest.now row at)) × (result.at ≤ done.at + row_room row) × (result.zones ≤ done.zones + 1) }
+    requires { Packable zones.bytes.now zones.rings.now zones.sizes.now zones.coords.now zones.quotas.now zones.deepest.now row at × (length obstacles.now ≤ length near.old) × Fair sizing options (rectangles obstacles.now) zones.bytes.now zones.rings.now zones.sizes.now zones.coords.now zones.quotas.now zones.deepest.now row at × (done.at + row_room row ≤ length sheet.old) × (done.zones ≤ 64) }
+    ensures { Put (bytes_at sizing options (rectangles obstacles.now) zones.entry.bytes.now zones.entry.rings.now zones.entry.sizes.now zones.entry.coords.now zones.entry.quotas.now zones.entry.deepest.now row at) done.at result.at sheet.old sheet.new × (result.zones ≡ done.zones + length (placed_at sizing options (rectangles obstacles.now) zones.entry.bytes.now zones.entry.rings.now zones.entry.sizes.now zones.entry.coords.now zones.entry.quotas.now zones.entry.deepest.now row at)) × (result.at ≤ done.at + row_room row) × (result.zones ≤ done.zones + 1) }
 {
     if !is_left_in(row) {
         return done;
@@ -145,20 +125,20 @@ fn put_row(
         sizing,
         options,
         obstacles,
-        s,
-        rings,
-        sizes,
-        coords,
-        quotas,
-        deepest,
+        zones,
         row,
         at,
         &mut near[..],
-        &mut second[..],
-        &mut flags[..],
-        &mut spots[..],
+        work,
     );
-    let to = put_placement(&mut sheet[..], done.at, s, row, placed, spots);
+    let to = put_placement(
+        &mut sheet[..],
+        done.at,
+        zones.bytes,
+        row,
+        placed,
+        work.spots,
+    );
     Done {
         at: to,
         zones: done.zones + 1,
@@ -167,52 +147,33 @@ fn put_row(
 
 // Packs and puts the zones left in, from byte 15 of the sheet on.
 pub fn put_zones(
-    sizing: Sizing,
+    sizing: Option<Size>,
     options: GlyphOptions,
     obstacles: &[f64],
-    s: &[u8],
-    n: usize,
-    rows: &[usize],
-    rings: &[usize],
-    sizes: &[usize],
-    coords: &[f64],
-    quotas: &[usize],
-    deepest: &[f64],
+    zones: Zones<'_>,
     near: &mut [f64],
-    second: &mut [f64],
-    flags: &mut [f64],
-    spots: &mut [f64],
+    work: &mut Work<'_>,
     sheet: &mut [u8],
 ) -> Done
-    requires { Floor s.now n rows.now rings.now sizes.now coords.now quotas.now deepest.now × Lends obstacles.now near.old second.old flags.old spots.old × EachRow rows.now rings.now sizes.now (Fair sizing options (rectangles obstacles.now) s.now rings.now sizes.now coords.now quotas.now deepest.now) n 0 start × (15 + rows_room n rows.now ≤ length sheet.old) × (n ≤ 64) }
-    ensures { Put (flat_rows rows.now rings.now sizes.now (bytes_at sizing options (rectangles obstacles.now) s.now rings.now sizes.now coords.now quotas.now deepest.now) n 0 start) 15 result.at sheet.old sheet.new × (result.zones ≡ length (flat_rows rows.now rings.now sizes.now (placed_at sizing options (rectangles obstacles.now) s.now rings.now sizes.now coords.now quotas.now deepest.now) n 0 start)) × (result.at ≤ 15 + rows_room n rows.now) }
+    requires { (length obstacles.now ≤ length near.old) × AllFair sizing options (rectangles obstacles.now) zones × (15 + rows_room zones.rows.now ≤ length sheet.old) × (length zones.rows.now ≤ 64) }
+    ensures { Put (all_bytes sizing options (rectangles obstacles.now) zones.entry) 15 result.at sheet.old sheet.new × (result.zones ≡ length (all_placed sizing options (rectangles obstacles.now) zones.entry)) × (result.at ≤ 15 + rows_room zones.entry.rows.now) }
 {
     let mut done = Done { at: 15, zones: 0 };
     let mut at = Offsets::START;
-    let mut z = 0;
-    while z < n {
-        let row = get_row(rows, z);
+    for row in zones.rows {
         done = put_row(
             sizing,
             options,
             obstacles,
-            s,
-            rings,
-            sizes,
-            coords,
-            quotas,
-            deepest,
-            row,
+            zones,
+            *row,
             at,
             &mut near[..],
-            &mut second[..],
-            &mut flags[..],
-            &mut spots[..],
+            work,
             &mut sheet[..],
             done,
         );
-        at = past_row(rings, sizes, coords, row, at);
-        z += 1;
+        at = past_row(zones.rings, zones.sizes, zones.coords, *row, at);
     }
     done
 }

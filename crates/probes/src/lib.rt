@@ -10,8 +10,13 @@ ghost use Rattle.regions.specs.Area.{piece_area};
 ghost use Rattle.regions.specs.Clearance.{signed_clearance};
 ghost use Rattle.relax.specs.Scatter.{source, relax_scatter};
 
-use deepest::search::Deepest;
-use glyphs::bounds::Bounds;
+use deepest::search::{Deepest, deepest_point};
+use glyphs::rect::{is_near, obstacle};
+use glyphs::spots::spot;
+use regions::four::{Four, four_clearances};
+use regions::keeps::{clearance_at_least, clears};
+use regions::margin::Margin;
+use regions::piece::RegionPiece;
 
 mod packers;
 
@@ -20,7 +25,7 @@ pub extern "C" fn probe_signed_clearance(sizes: &[usize], coords: &[f64], x: f64
     requires { (0 < length sizes.now) × (sum sizes.now * 2 ≤ length coords.now) }
     ensures { result ≡ signed_clearance x y (piece_of sizes.now coords.now) }
 {
-    regions::clearance::signed_clearance(x, y, sizes, coords)
+    regions::clearance::signed_clearance(x, y, RegionPiece { sizes, coords })
 }
 
 #[unsafe(no_mangle)]
@@ -32,10 +37,20 @@ pub extern "C" fn probe_four_clearances(
 )
     requires { (0 < length sizes.now) × (sum sizes.now * 2 ≤ length coords.now) }
 {
-    let four = regions::four::four_clearances(
-        places[0], places[1], places[2], places[3], places[4], places[5], places[6], places[7],
-        sizes, coords,
-    );
+    let [ax, ay, bx, by, cx, cy, dx, dy] = *places;
+    let xs = Four {
+        a: ax,
+        b: bx,
+        c: cx,
+        d: dx,
+    };
+    let ys = Four {
+        a: ay,
+        b: by,
+        c: cy,
+        d: dy,
+    };
+    let four = four_clearances(xs, ys, RegionPiece { sizes, coords });
     found[0] = four.a;
     found[1] = four.b;
     found[2] = four.c;
@@ -53,16 +68,7 @@ pub extern "C" fn probe_clearance_at_least(
     requires { (0 < length sizes.now) × (sum sizes.now * 2 ≤ length coords.now) }
     ensures { result ≡ (c ≤ᶠ signed_clearance x y (piece_of sizes.now coords.now)) }
 {
-    regions::margin::clearance_at_least(x, y, sizes, coords, c)
-}
-
-fn one_if(b: bool) -> u64
-    ensures { result ≤ 1 }
-{
-    if b {
-        return 1;
-    }
-    0
+    clearance_at_least(x, y, RegionPiece { sizes, coords }, c)
 }
 
 // How many of the places, x and y in turn, have a clearance of at least c.
@@ -70,25 +76,19 @@ fn one_if(b: bool) -> u64
 pub extern "C" fn probe_count_clear(sizes: &[usize], coords: &[f64], places: &[f64], c: f64) -> u64
     requires { (0 < length sizes.now) × (sum sizes.now * 2 ≤ length coords.now) }
 {
-    let margin = regions::margin::Margin::of(c);
-    let n = places.len() / 2;
-    let mut many = 0u64;
-    let mut k = 0;
-    while k < n {
-        let p = glyphs::spots::spot(places, k);
-        many = many + one_if(regions::margin::clears(p.x, p.y, sizes, coords, margin));
-        k += 1;
-    }
-    many
+    let piece = RegionPiece { sizes, coords };
+    let margin = Margin::of(c);
+    (0..places.len() / 2)
+        .filter(|k| {
+            let p = spot(places, *k);
+            clears(p.x, p.y, piece, margin)
+        })
+        .count() as u64
 }
 
 #[unsafe(no_mangle)]
 pub extern "C" fn probe_point_in_polygon(ring: &[f64], x: f64, y: f64) -> u8 {
-    if regions::inside::point_in_polygon(x, y, ring) {
-        1
-    } else {
-        0
-    }
+    u8::from(regions::inside::point_in_polygon(x, y, ring))
 }
 
 #[unsafe(no_mangle)]
@@ -96,35 +96,19 @@ pub extern "C" fn probe_area(sizes: &[usize], coords: &[f64]) -> f64
     requires { (0 < length sizes.now) × (sum sizes.now * 2 ≤ length coords.now) }
     ensures { result ≡ piece_area (piece_of sizes.now coords.now) }
 {
-    regions::area::piece_area(sizes, coords)
+    regions::area::piece_area(RegionPiece { sizes, coords })
 }
 
 #[unsafe(no_mangle)]
 pub extern "C" fn probe_ring_bounds(ring: &[f64], bounds: &mut [f64; 4]) -> u8 {
-    let Bounds::Box(min_x, max_x, min_y, max_y) = glyphs::bounds::ring_bounds(ring) else {
+    let Some(e) = glyphs::bounds::ring_bounds(ring) else {
         return 0;
     };
-    bounds[0] = min_x;
-    bounds[1] = max_x;
-    bounds[2] = min_y;
-    bounds[3] = max_y;
+    *bounds = [e.min_x, e.max_x, e.min_y, e.max_y];
     1
 }
 
-fn near_flag(bounds: Bounds, obstacles: &[f64], k: usize, clearance: f64) -> u8
-    requires { k < length obstacles.now / 4 }
-    ensures { result ≤ 1 }
-{
-    let Bounds::Box(min_x, max_x, min_y, max_y) = bounds else {
-        return 0;
-    };
-    let rect = glyphs::rect::obstacle(obstacles, k);
-    if glyphs::rect::is_near(rect, clearance, min_x, max_x, min_y, max_y) {
-        return 1;
-    }
-    0
-}
-
+// Sets the flags of the obstacles that are near, and answers how many they are.
 #[unsafe(no_mangle)]
 pub extern "C" fn probe_obstacles_near(
     sizes: &[usize],
@@ -135,15 +119,16 @@ pub extern "C" fn probe_obstacles_near(
 ) -> u64
     requires { (0 < length sizes.now) × (sum sizes.now * 2 ≤ length coords.now) × (length near.old ≤ length obstacles.now / 4) }
 {
-    let n = sizes[0];
-    let bounds = glyphs::bounds::ring_bounds(regions::ring::ring_at(coords, 0, n));
+    let piece = RegionPiece { sizes, coords };
+    let Some(extents) = glyphs::bounds::ring_bounds(piece.outer()) else {
+        near.fill(0);
+        return 0;
+    };
     let mut many = 0u64;
-    let mut k = 0;
-    while k < near.len() {
-        let flag = near_flag(bounds, obstacles, k, clearance);
-        near[k] = flag;
-        many = many + (flag as u64);
-        k += 1;
+    for (k, flag) in near.iter_mut().enumerate() {
+        let found = is_near(obstacle(obstacles, k), clearance, extents);
+        *flag = u8::from(found);
+        many += u64::from(found);
     }
     many
 }
@@ -163,14 +148,13 @@ pub extern "C" fn probe_relax_scatter(
 {
     let n = spots.len() / 2;
     let mut unrooted = [0.0; 2000];
-    let mut honoring = [0.0; 2000];
+    let mut honoring = [false; 2000];
     relax::sweeps::relax_scatter(
         relax::Spreading::SOURCE,
         spots,
         &mut unrooted[..n],
         &mut honoring[..n],
-        sizes,
-        coords,
+        RegionPiece { sizes, coords },
         obstacles,
         spacing,
         inset,
@@ -178,18 +162,16 @@ pub extern "C" fn probe_relax_scatter(
 }
 
 // Whether a search has room, with as many cells as are lent.
-fn has_room(sizes: &[usize], coords: &[f64], precision: f64, cells: &mut [f64]) -> bool
-    requires { (0 < length sizes.now) × (sum sizes.now * 2 ≤ length coords.now) × (length cells.old ≤ 500000) }
+fn has_room(piece: RegionPiece, precision: f64, cells: &mut [f64]) -> bool
+    requires { length cells.old ≤ 500000 }
 {
-    let Deepest::Full = deepest::search::deepest_point(sizes, coords, precision, cells) else {
-        return true;
-    };
-    false
+    !matches!(deepest_point(piece, precision, cells), Deepest::Full)
 }
 
 // The most cells that wait at once in a search that has room with 1,600: the least number with which it has room.
-fn most_waiting(sizes: &[usize], coords: &[f64], precision: f64, cells: &mut [f64]) -> usize
-    requires { (0 < length sizes.now) × (sum sizes.now * 2 ≤ length coords.now) × (8000 ≤ length cells.old) }
+// Halving is written out: no slice is searched, and each test writes to the cells.
+fn most_waiting(piece: RegionPiece, precision: f64, cells: &mut [f64]) -> usize
+    requires { 8000 ≤ length cells.old }
     ensures { result ≤ 1600 }
 {
     let mut low = 0;
@@ -197,7 +179,7 @@ fn most_waiting(sizes: &[usize], coords: &[f64], precision: f64, cells: &mut [f6
     while 0 < span {
         let half = span / 2;
         let n = (low + half) * 5;
-        if has_room(sizes, coords, precision, &mut cells[..n]) {
+        if has_room(piece, precision, &mut cells[..n]) {
             span = half;
         } else {
             low = low + half + 1;
@@ -219,17 +201,18 @@ pub extern "C" fn probe_deepest_point(
 ) -> u8
     requires { (0 < length sizes.now) × (sum sizes.now * 2 ≤ length coords.now) × (8000 ≤ length first.old) }
 {
-    match deepest::search::deepest_point(sizes, coords, precision, &mut first[..8000]) {
+    let piece = RegionPiece { sizes, coords };
+    match deepest_point(piece, precision, &mut first[..8000]) {
         Deepest::Full => {
             *waiting = 1601;
             15
         }
         Deepest::Nothing => {
-            *waiting = most_waiting(sizes, coords, precision, first) as u32;
+            *waiting = most_waiting(piece, precision, first) as u32;
             0
         }
         Deepest::Found(x, y, d) => {
-            *waiting = most_waiting(sizes, coords, precision, first) as u32;
+            *waiting = most_waiting(piece, precision, first) as u32;
             found[0] = x;
             found[1] = y;
             found[2] = d;
@@ -248,7 +231,7 @@ pub extern "C" fn probe_depth(
 ) -> f64
     requires { (0 < length sizes.now) × (sum sizes.now * 2 ≤ length coords.now) × (length cells.old ≤ 500000) }
 {
-    match deepest::search::deepest_point(sizes, coords, precision, cells) {
+    match deepest_point(RegionPiece { sizes, coords }, precision, cells) {
         Deepest::Full => -1.0,
         Deepest::Nothing => 0.0,
         Deepest::Found(_, _, d) => d,

@@ -8,7 +8,9 @@ use glyphs::rect::Point;
 use glyphs::stream::Stream;
 use lattice::context::PackCtx;
 use lattice::uniform::{pack_uniform_piece, probe_uniform_piece};
-use scatter::low::Anchor;
+use regions::piece::RegionPiece;
+use scatter::low::{lone_anchor, pack_low_discrepancy_piece};
+use scatter::random::pack_random_piece;
 
 // Radius, gap and boundary gap, with a mode.
 fn context(settings: &[f64; 4], spread: bool, strict: bool) -> PackCtx
@@ -29,8 +31,7 @@ fn context(settings: &[f64; 4], spread: bool, strict: bool) -> PackCtx
 // The lattice packer; a trial, which is not spread, only counts, and is strict.
 fn pack_lattice(
     rectangular: bool,
-    sizes: &[usize],
-    coords: &[f64],
+    piece: RegionPiece,
     obstacles: &[f64],
     settings: &[f64; 4],
     n: usize,
@@ -40,10 +41,10 @@ fn pack_lattice(
     second: &mut [f64],
     spots: &mut [f64],
 ) -> usize
-    requires { (0 < length sizes.now) × (sum sizes.now * 2 ≤ length coords.now) × (length obstacles.now ≤ 256) × (8000 ≤ length first.old) × (0 < n) × (n * 2 ≤ length second.old) × (n * 2 ≤ length spots.old) }
+    requires { (length obstacles.now ≤ 256) × (8000 ≤ length first.old) × (0 < n) × (n * 2 ≤ length second.old) × (n * 2 ≤ length spots.old) }
 {
     let precision = settings[3];
-    let found = deepest_point(sizes, coords, precision, &mut first[..8000]);
+    let found = deepest_point(piece, precision, &mut first[..8000]);
     let Deepest::Found(x, y, _) = found else {
         return 0;
     };
@@ -53,8 +54,7 @@ fn pack_lattice(
         let ctx = context(settings, true, strict);
         return pack_uniform_piece(
             poi,
-            sizes,
-            coords,
+            piece,
             n,
             ctx,
             obstacles,
@@ -65,18 +65,10 @@ fn pack_lattice(
         );
     }
     let ctx = context(settings, false, true);
-    probe_uniform_piece(
-        poi,
-        sizes,
-        coords,
-        n,
-        ctx,
-        obstacles,
-        rectangular,
-        &mut near[..],
-    )
+    probe_uniform_piece(poi, piece, n, ctx, obstacles, rectangular, &mut near[..])
 }
 
+// The packers are four functions of one form to C: what one of them does not need, it leaves alone.
 #[unsafe(no_mangle)]
 pub extern "C" fn probe_pack_uniform(
     sizes: &[usize],
@@ -97,8 +89,7 @@ pub extern "C" fn probe_pack_uniform(
     let n = quota as usize;
     pack_lattice(
         false,
-        sizes,
-        coords,
+        RegionPiece { sizes, coords },
         obstacles,
         settings,
         n,
@@ -130,8 +121,7 @@ pub extern "C" fn probe_pack_rectangular(
     let n = quota as usize;
     pack_lattice(
         true,
-        sizes,
-        coords,
+        RegionPiece { sizes, coords },
         obstacles,
         settings,
         n,
@@ -145,25 +135,24 @@ pub extern "C" fn probe_pack_rectangular(
 
 // The place that a lone mark tries first, from a search with room for 1,600 cells.
 fn lone_place(
-    sizes: &[usize],
-    coords: &[f64],
+    piece: RegionPiece,
     n: usize,
     ctx: PackCtx,
     precision: f64,
     obstacles: &[f64],
     near: &mut [f64],
     cells: &mut [f64],
-) -> Anchor
-    requires { (0 < length sizes.now) × (sum sizes.now * 2 ≤ length coords.now) × (length obstacles.now ≤ length near.old) × (8000 ≤ length cells.old) }
+) -> Option<Point>
+    requires { (length obstacles.now ≤ length near.old) × (8000 ≤ length cells.old) }
 {
     if n != 1 {
-        return Anchor::Nowhere;
+        return None;
     }
-    let found = deepest_point(sizes, coords, precision, &mut cells[..8000]);
+    let found = deepest_point(piece, precision, &mut cells[..8000]);
     let Deepest::Found(x, y, _) = found else {
-        return Anchor::Nowhere;
+        return None;
     };
-    scatter::low::lone_anchor(Point { x, y }, sizes, coords, n, ctx, obstacles, near)
+    lone_anchor(Point { x, y }, piece, n, ctx, obstacles, near)
 }
 
 #[unsafe(no_mangle)]
@@ -186,27 +175,9 @@ pub extern "C" fn probe_pack_low_discrepancy(
     let ctx = context(settings, spread == 1, strict == 1);
     let n = quota as usize;
     let mut near = [0.0; 256];
-    let precision = settings[3];
-    let anchor = lone_place(
-        sizes,
-        coords,
-        n,
-        ctx,
-        precision,
-        obstacles,
-        &mut near[..],
-        first,
-    );
-    scatter::low::pack_low_discrepancy_piece(
-        anchor,
-        sizes,
-        coords,
-        n,
-        ctx,
-        obstacles,
-        &mut near[..],
-        spots,
-    ) as u64
+    let piece = RegionPiece { sizes, coords };
+    let anchor = lone_place(piece, n, ctx, settings[3], obstacles, &mut near[..], first);
+    pack_low_discrepancy_piece(anchor, piece, n, ctx, obstacles, &mut near[..], spots) as u64
 }
 
 #[unsafe(no_mangle)]
@@ -221,26 +192,28 @@ pub extern "C" fn probe_pack_random(
     strict: u8,
     state: &mut u64,
     first: &mut [f64],
-    second: &mut [f64],
+    _second: &mut [f64],
     spots: &mut [f64],
 ) -> u64
-    requires { (0 < length sizes.now) × (sum sizes.now * 2 ≤ length coords.now) × (length obstacles.now ≤ 256) × (quota ≤ length first.old) × (quota ≤ length second.old) × (quota * 2 ≤ length spots.old) }
+    requires { (0 < length sizes.now) × (sum sizes.now * 2 ≤ length coords.now) × (length obstacles.now ≤ 256) × (quota ≤ length first.old) × (quota ≤ length _second.old) × (quota * 2 ≤ length spots.old) }
 {
     let ctx = context(settings, spread == 1, strict == 1);
     let rng = Stream { state: *state };
+    // A piece has 2,000 marks at most. C lends floats, so the room for flags is an array of this function's.
+    let n = (quota as usize).min(2000);
     let mut near = [0.0; 256];
-    let taken = scatter::random::pack_random_piece(
+    let mut honoring = [false; 2000];
+    let taken = pack_random_piece(
         relax::Spreading::SOURCE,
-        sizes,
-        coords,
-        quota as usize,
+        RegionPiece { sizes, coords },
+        n,
         attempts,
         ctx,
         obstacles,
         rng,
         &mut near[..],
         first,
-        second,
+        &mut honoring[..],
         spots,
     );
     *state = taken.rng.state;

@@ -1,10 +1,12 @@
 pub mod Ring
+pub mod Pieces
 pub mod Inside
 pub mod Area
 pub mod Clearance
 pub mod Squares
 pub mod Least
 pub mod Margin
+pub mod Margins
 pub mod Unrooted
 pub mod Pillars
 pub mod Facts

@@ -1,7 +1,6 @@
 -- 'The clearance is at least c' mostly without a root: a margin's squares, and what they tell of a root.
 -- Rests on the root's being monotone, and on the order of floats.
 use Rattle.std.specs.Prelude.{◌≡◌, refl, Bool, true, false, cond, zero, suc, T, Float}
-use Rattle.std.proofs.Common.{sym, ap, ◌∙◌}
 use Rattle.std.specs.Float.Ieee
 use Rattle.std.specs.Float.{nan, inf, fin, binary64}
 use Rattle.std.specs.Float.Ieee.{lt, le, is_nan}
@@ -13,7 +12,6 @@ use Rattle.float.specs.Laws.Nan.{Number, le_number}
 use Rattle.float.specs.Laws.Zero.{origin, origin_is, zero_ge, plain_above}
 use Rattle.float.specs.Laws.Compare.{le_trans, lt_le, lt_not_le}
 use Rattle.float.specs.Laws.Monotone.{root_of_mono}
-use Rattle.regions.specs.declared.margin.Margin.{Margin}
 
 -- A clearance c to keep; squares below `low` have a root below c, and from `high` on one of at least c, or a comparison with them fails.
 unfoldable pub low_square : Float → Float
@@ -26,28 +24,10 @@ high_square c =
     let square = c *ᶠ c *ᶠ literal 0x3ff0_0068_db8b_ac71 in
     cond (c ≤ᶠ sqrt square) square nan
 
-unfoldable pub margin_of : Float → Margin
-margin_of c = record { least = c; low = low_square c; high = high_square c }
-
 -- the code's 0.0 / 0.0
 pub none : 0ᶠ /ᶠ 0ᶠ ≡ nan
 unfolding Ieee.of_bits Ieee.of_fields Ieee.odd Ieee.div
 none = refl
-
-pub high_of_margin : (m : Margin) → m ≡ margin_of m.least → m.high ≡ high_square m.least
-unfolding margin_of
-high_of_margin m e = ap (λ (x : Margin). x.high) e
-
-pub low_of_margin : (m : Margin) → m ≡ margin_of m.least → m.low ≡ low_square m.least
-unfolding margin_of
-low_of_margin m e = ap (λ (x : Margin). x.low) e
-
-pub least_of_margin : (m : Margin) (c : Float) → m ≡ margin_of c → m.least ≡ c
-unfolding margin_of
-least_of_margin m c e = ap (λ (x : Margin). x.least) e
-
-pub margin_own : (m : Margin) (c : Float) → m ≡ margin_of c → m ≡ margin_of m.least
-margin_own m c e = e ∙ ap margin_of (sym (least_of_margin m c e))
 
 -- ---- what the squares tell
 

@@ -1,12 +1,13 @@
 // regions.rs, `min_dist_to_rings` and `signed_clearance`. The least of the squares is kept and one root taken.
-ghost use Rattle.std.specs.Prelude.{◌≡◌, ◌-◌, ◌*◌, ◌/◌, ◌<◌, ◌≤◌, length};
-ghost use Rattle.regions.specs.Ring.{sum, piece_of};
+ghost use Rattle.std.specs.Prelude.{◌≡◌, ◌-◌, ◌/◌, ◌<◌, length};
+ghost use Rattle.regions.specs.Pieces.{rings_of};
 ghost use Rattle.regions.specs.Clearance.{along, edge_square, square_at, closer, within, signed_clearance};
 ghost use Rattle.regions.specs.Squares.{least_of_ring, least_of_rings, least_from};
 ghost use Rattle.regions.specs.Unrooted.{rooted_if};
 
 use crate::inside::point_in_polygon;
-use crate::ring::{after, ring_at};
+use crate::piece::RegionPiece;
+use crate::ring::after;
 use crate::small::ring_clearance;
 use glyphs::points::{vx, vy};
 
@@ -95,12 +96,10 @@ pub fn ring_square(px: f64, py: f64, start: f64, ring: &[f64]) -> f64
     let mut ay = vy(ring, 0);
     let mut bx = vx(ring, half);
     let mut by = vy(ring, half);
-    let mut i = 0;
-    while i < half {
+    for i in 0..half {
         let k = after(n, half + i);
-        i += 1;
-        let cx = vx(ring, i);
-        let cy = vy(ring, i);
+        let cx = vx(ring, i + 1);
+        let cy = vy(ring, i + 1);
         let dx = vx(ring, k);
         let dy = vy(ring, k);
         best = closer_edge(px, py, best, ax, ay, cx, cy);
@@ -114,43 +113,31 @@ pub fn ring_square(px: f64, py: f64, start: f64, ring: &[f64]) -> f64
 }
 
 // The least square of all rings.
-pub fn rings_square(px: f64, py: f64, sizes: &[usize], coords: &[f64]) -> f64
-    requires { sum sizes.now * 2 ≤ length coords.now }
-    ensures { result ≡ least_of_rings px py (piece_of sizes.now coords.now) }
+pub fn rings_square(px: f64, py: f64, piece: RegionPiece) -> f64
+    ensures { result ≡ least_of_rings px py (rings_of piece.entry) }
 {
     let mut best = 1.0 / 0.0;
-    let mut at = 0;
-    let mut k = 0;
-    while k < sizes.len() {
-        let n = sizes[k];
-        best = ring_square(px, py, best, ring_at(coords, at, n));
-        at += n;
-        k += 1;
+    for ring in piece.rings() {
+        best = ring_square(px, py, best, ring);
     }
     best
 }
 
 // Whether (x, y) is inside the outer ring and no hole. Without holes there is no branch on the answer.
-pub fn inside_piece(x: f64, y: f64, sizes: &[usize], coords: &[f64]) -> bool
-    requires { (0 < length sizes.now) × (sum sizes.now * 2 ≤ length coords.now) }
-    ensures { result ≡ within x y (piece_of sizes.now coords.now) }
+pub fn inside_piece(x: f64, y: f64, piece: RegionPiece) -> bool
+    ensures { result ≡ within x y (rings_of piece.entry) }
 {
-    let mut at = sizes[0];
-    let inside = point_in_polygon(x, y, ring_at(coords, 0, at));
-    if sizes.len() == 1 {
+    let inside = point_in_polygon(x, y, piece.outer());
+    if piece.sizes.len() == 1 {
         return inside;
     }
     if !inside {
         return false;
     }
-    let mut k = 1;
-    while k < sizes.len() {
-        let n = sizes[k];
-        if point_in_polygon(x, y, ring_at(coords, at, n)) {
+    for hole in piece.holes() {
+        if point_in_polygon(x, y, hole) {
             return false;
         }
-        at += n;
-        k += 1;
     }
     true
 }
@@ -167,22 +154,20 @@ pub fn with_root(square: f64, inside: bool, always: bool) -> f64
 
 // `signed_clearance`, its root taken always or outside only. The inside test stands before the root: nothing in it waits
 // for the distance.
-pub fn clearance(px: f64, py: f64, sizes: &[usize], coords: &[f64], always: bool) -> f64
-    requires { (0 < length sizes.now) × (sum sizes.now * 2 ≤ length coords.now) }
-    ensures { result ≡ rooted_if always (within px py (piece_of sizes.now coords.now)) (least_of_rings px py (piece_of sizes.now coords.now)) }
+pub fn clearance(px: f64, py: f64, piece: RegionPiece, always: bool) -> f64
+    ensures { result ≡ rooted_if always (within px py (rings_of piece.entry)) (least_of_rings px py (rings_of piece.entry)) }
 {
-    let n = sizes[0];
-    if (sizes.len() == 1) & ((n >= 3) & (n <= 24)) {
-        return ring_clearance(px, py, ring_at(coords, 0, n), always);
+    let n = piece.sizes[0];
+    if (piece.sizes.len() == 1) & ((n >= 3) & (n <= 24)) {
+        return ring_clearance(px, py, piece.outer(), always);
     }
-    let square = rings_square(px, py, sizes, coords);
-    let inside = inside_piece(px, py, sizes, coords);
+    let square = rings_square(px, py, piece);
+    let inside = inside_piece(px, py, piece);
     with_root(square, inside, always)
 }
 
-pub fn signed_clearance(px: f64, py: f64, sizes: &[usize], coords: &[f64]) -> f64
-    requires { (0 < length sizes.now) × (sum sizes.now * 2 ≤ length coords.now) }
-    ensures { result ≡ signed_clearance px py (piece_of sizes.now coords.now) }
+pub fn signed_clearance(px: f64, py: f64, piece: RegionPiece) -> f64
+    ensures { result ≡ signed_clearance px py (rings_of piece.entry) }
 {
-    clearance(px, py, sizes, coords, true)
+    clearance(px, py, piece, true)
 }

@@ -1,39 +1,38 @@
 // regions.rs, `signed_clearance` of four places at once: each edge is read once, and the four are worked out side by
 // side.
-ghost use Rattle.std.specs.Prelude.{◌≡◌, true, ◌&&◌, ◌*◌, ◌<◌, ◌≤◌, length};
-ghost use Rattle.std.specs.Bool.{beq};
+ghost use Rattle.std.specs.Prelude.{◌≡◌, true, not, ◌&&◌};
 ghost use Rattle.float.specs.Ops.{◌>ᶠ◌};
-ghost use Rattle.regions.specs.Ring.{sum, piece_of};
+ghost use Rattle.regions.specs.Pieces.{rings_of};
 ghost use Rattle.regions.specs.Inside.{intersect, flip, point_in_polygon};
 ghost use Rattle.regions.specs.Clearance.{edge_square, closer, within, signed_clearance};
 ghost use Rattle.regions.specs.Squares.{least_of_ring, least_of_rings};
-ghost use Rattle.regions.specs.Four.{Which, four, at, told};
+ghost use Rattle.regions.specs.Four.{Which, at};
 
 use crate::clearance::closer_edge;
 use crate::inside::turned_by;
-use crate::ring::{after, before, ring_at};
+use crate::piece::RegionPiece;
+use crate::ring::{after, before};
 use glyphs::points::{vx, vy};
 
-// A number of each of four places.
+// What each of four places has.
 #[derive(Clone, Copy)]
-pub struct Four {
-    pub a: f64,
-    pub b: f64,
-    pub c: f64,
-    pub d: f64,
-}
-
-// A flag of each of four places.
-#[derive(Clone, Copy)]
-pub struct Flags {
-    pub a: bool,
-    pub b: bool,
-    pub c: bool,
-    pub d: bool,
+pub struct Four<T> {
+    pub a: T,
+    pub b: T,
+    pub c: T,
+    pub d: T,
 }
 
 // The least squares so far, with those of the edge from a to b.
-fn nearer(xs: Four, ys: Four, best: Four, ax: f64, ay: f64, bx: f64, by: f64) -> Four
+fn nearer(
+    xs: Four<f64>,
+    ys: Four<f64>,
+    best: Four<f64>,
+    ax: f64,
+    ay: f64,
+    bx: f64,
+    by: f64,
+) -> Four<f64>
     ensures { (k : Which) → at k result ≡ closer (edge_square (at k xs) (at k ys) ax ay bx by) (at k best) }
 {
     Four {
@@ -45,7 +44,7 @@ fn nearer(xs: Four, ys: Four, best: Four, ax: f64, ay: f64, bx: f64, by: f64) ->
 }
 
 // The least of `start` and the squares of the distances to a ring's edges.
-fn ring_squares(xs: Four, ys: Four, start: Four, ring: &[f64]) -> Four
+fn ring_squares(xs: Four<f64>, ys: Four<f64>, start: Four<f64>, ring: &[f64]) -> Four<f64>
     ensures { (k : Which) → at k result ≡ least_of_ring (at k xs) (at k ys) (at k start) ring.now }
 {
     let n = ring.len() / 2;
@@ -53,8 +52,7 @@ fn ring_squares(xs: Four, ys: Four, start: Four, ring: &[f64]) -> Four
         return start;
     }
     let mut best = start;
-    let mut i = 0;
-    while i < n {
+    for i in 0..n {
         let j = after(n, i);
         best = nearer(
             xs,
@@ -65,15 +63,13 @@ fn ring_squares(xs: Four, ys: Four, start: Four, ring: &[f64]) -> Four
             vx(ring, j),
             vy(ring, j),
         );
-        i += 1;
     }
     best
 }
 
 // The least squares of all rings.
-fn rings_squares(xs: Four, ys: Four, sizes: &[usize], coords: &[f64]) -> Four
-    requires { sum sizes.now * 2 ≤ length coords.now }
-    ensures { (k : Which) → at k result ≡ least_of_rings (at k xs) (at k ys) (piece_of sizes.now coords.now) }
+fn rings_squares(xs: Four<f64>, ys: Four<f64>, piece: RegionPiece) -> Four<f64>
+    ensures { (k : Which) → at k result ≡ least_of_rings (at k xs) (at k ys) (rings_of piece.entry) }
 {
     let far = 1.0 / 0.0;
     let mut best = Four {
@@ -82,19 +78,14 @@ fn rings_squares(xs: Four, ys: Four, sizes: &[usize], coords: &[f64]) -> Four
         c: far,
         d: far,
     };
-    let mut from = 0;
-    let mut i = 0;
-    while i < sizes.len() {
-        let n = sizes[i];
-        best = ring_squares(xs, ys, best, ring_at(coords, from, n));
-        from += n;
-        i += 1;
+    for ring in piece.rings() {
+        best = ring_squares(xs, ys, best, ring);
     }
     best
 }
 
 // Whether each ordinate has both ends of an edge above it, or neither, so that the edge is crossed for none.
-fn on_one_side_of_all(ys: Four, yi: f64, yj: f64) -> bool
+fn on_one_side_of_all(ys: Four<f64>, yi: f64, yj: f64) -> bool
     ensures { result ≡ true → (k : Which) → yi >ᶠ at k ys ≡ yj >ᶠ at k ys }
 {
     let a = (yi > ys.a) == (yj > ys.a);
@@ -105,13 +96,21 @@ fn on_one_side_of_all(ys: Four, yi: f64, yj: f64) -> bool
 }
 
 // The flags turned over where the edge between the vertices i and j is crossed.
-fn turned_all(xs: Four, ys: Four, inside: Flags, xi: f64, yi: f64, xj: f64, yj: f64) -> Flags
-    ensures { (k : Which) → told k result ≡ flip (intersect (at k xs) (at k ys) xi yi xj yj) (told k inside) }
+fn turned_all(
+    xs: Four<f64>,
+    ys: Four<f64>,
+    inside: Four<bool>,
+    xi: f64,
+    yi: f64,
+    xj: f64,
+    yj: f64,
+) -> Four<bool>
+    ensures { (k : Which) → at k result ≡ flip (intersect (at k xs) (at k ys) xi yi xj yj) (at k inside) }
 {
     if on_one_side_of_all(ys, yi, yj) {
         return inside;
     }
-    Flags {
+    Four {
         a: turned_by(xs.a, ys.a, inside.a, xi, yi, xj, yj),
         b: turned_by(xs.b, ys.b, inside.b, xi, yi, xj, yj),
         c: turned_by(xs.c, ys.c, inside.c, xi, yi, xj, yj),
@@ -119,11 +118,11 @@ fn turned_all(xs: Four, ys: Four, inside: Flags, xi: f64, yi: f64, xj: f64, yj: 
     }
 }
 
-fn in_polygon(xs: Four, ys: Four, ring: &[f64]) -> Flags
-    ensures { (k : Which) → told k result ≡ point_in_polygon (at k xs) (at k ys) ring.now }
+fn in_polygon(xs: Four<f64>, ys: Four<f64>, ring: &[f64]) -> Four<bool>
+    ensures { (k : Which) → at k result ≡ point_in_polygon (at k xs) (at k ys) ring.now }
 {
     let n = ring.len() / 2;
-    let mut inside = Flags {
+    let mut inside = Four {
         a: false,
         b: false,
         c: false,
@@ -132,8 +131,7 @@ fn in_polygon(xs: Four, ys: Four, ring: &[f64]) -> Flags
     if n < 3 {
         return inside;
     }
-    let mut i = 0;
-    while i < n {
+    for i in 0..n {
         let j = before(n, i);
         inside = turned_all(
             xs,
@@ -144,79 +142,43 @@ fn in_polygon(xs: Four, ys: Four, ring: &[f64]) -> Flags
             vx(ring, j),
             vy(ring, j),
         );
-        i += 1;
     }
     inside
 }
 
-// A flag is kept where the outer ring has the place, or a hole has it not.
-fn kept(inside: Flags, ring: Flags, outer: bool) -> Flags
-    ensures { (k : Which) → told k result ≡ told k inside && beq (told k ring) outer }
+// A flag is kept where a hole has the place not.
+fn kept(inside: Four<bool>, hole: Four<bool>) -> Four<bool>
+    ensures { (k : Which) → at k result ≡ at k inside && not (at k hole) }
 {
-    Flags {
-        a: inside.a & (ring.a == outer),
-        b: inside.b & (ring.b == outer),
-        c: inside.c & (ring.c == outer),
-        d: inside.d & (ring.d == outer),
+    Four {
+        a: inside.a & !hole.a,
+        b: inside.b & !hole.b,
+        c: inside.c & !hole.c,
+        d: inside.d & !hole.d,
     }
 }
 
 // Whether each place is inside the outer ring and no hole.
-fn in_piece(xs: Four, ys: Four, sizes: &[usize], coords: &[f64]) -> Flags
-    requires { (0 < length sizes.now) × (sum sizes.now * 2 ≤ length coords.now) }
-    ensures { (k : Which) → told k result ≡ within (at k xs) (at k ys) (piece_of sizes.now coords.now) }
+fn in_piece(xs: Four<f64>, ys: Four<f64>, piece: RegionPiece) -> Four<bool>
+    ensures { (k : Which) → at k result ≡ within (at k xs) (at k ys) (rings_of piece.entry) }
 {
-    let mut inside = Flags {
-        a: true,
-        b: true,
-        c: true,
-        d: true,
-    };
-    let mut from = 0;
-    let mut i = 0;
-    while i < sizes.len() {
-        let n = sizes[i];
-        inside = kept(inside, in_polygon(xs, ys, ring_at(coords, from, n)), i == 0);
-        from += n;
-        i += 1;
+    let mut inside = in_polygon(xs, ys, piece.outer());
+    for hole in piece.holes() {
+        inside = kept(inside, in_polygon(xs, ys, hole));
     }
     inside
 }
 
-pub fn four_clearances(
-    ax: f64,
-    ay: f64,
-    bx: f64,
-    by: f64,
-    cx: f64,
-    cy: f64,
-    dx: f64,
-    dy: f64,
-    sizes: &[usize],
-    coords: &[f64],
-) -> Four
-    requires { (0 < length sizes.now) × (sum sizes.now * 2 ≤ length coords.now) }
-    ensures { (k : Which) → at k result ≡ signed_clearance (at k (four ax bx cx dx)) (at k (four ay by cy dy)) (piece_of sizes.now coords.now) }
+pub fn four_clearances(xs: Four<f64>, ys: Four<f64>, piece: RegionPiece) -> Four<f64>
+    ensures { (k : Which) → at k result ≡ signed_clearance (at k xs) (at k ys) (rings_of piece.entry) }
 {
-    let xs = Four {
-        a: ax,
-        b: bx,
-        c: cx,
-        d: dx,
-    };
-    let ys = Four {
-        a: ay,
-        b: by,
-        c: cy,
-        d: dy,
-    };
-    let squares = rings_squares(xs, ys, sizes, coords);
-    let inside = in_piece(xs, ys, sizes, coords);
-    let roots = float::four_roots(squares.a, squares.b, squares.c, squares.d);
+    let squares = rings_squares(xs, ys, piece);
+    let inside = in_piece(xs, ys, piece);
+    let [a, b, c, d] = float::each_root([squares.a, squares.b, squares.c, squares.d]);
     Four {
-        a: float::negate_unless(roots.a, inside.a),
-        b: float::negate_unless(roots.b, inside.b),
-        c: float::negate_unless(roots.c, inside.c),
-        d: float::negate_unless(roots.d, inside.d),
+        a: float::negate_unless(a, inside.a),
+        b: float::negate_unless(b, inside.b),
+        c: float::negate_unless(c, inside.c),
+        d: float::negate_unless(d, inside.d),
     }
 }

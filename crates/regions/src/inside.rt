@@ -38,10 +38,8 @@ fn on_one_side(y: f64, v: &[f64], i: usize) -> bool
     ensures { result ≡ on_one_side y v.now i 17 }
 {
     let mut above = 0;
-    let mut k = 0;
-    while k < 17 {
+    for k in 0..17 {
         above += (vy(v, i + k) > y) as usize;
-        k += 1;
     }
     (above == 0) | (above == 17)
 }
@@ -52,11 +50,9 @@ fn turned_from(x: f64, y: f64, v: &[f64], i: usize, e: usize, inside: bool) -> b
     ensures { result ≡ inside_after x y v.now (length v.now / 2) e }
 {
     let mut turned_over = inside;
-    let mut k = i;
-    while k < e {
+    for k in i..e {
         let j = k - 1;
         turned_over = turned_by(x, y, turned_over, vx(v, k), vy(v, k), vx(v, j), vy(v, j));
-        k += 1;
     }
     turned_over
 }
@@ -82,6 +78,7 @@ pub fn point_in_polygon(x: f64, y: f64, v: &[f64]) -> bool
     let j = n - 1;
     let mut inside = crosses(x, y, vx(v, 0), vy(v, 0), vx(v, j), vy(v, j));
     let mut i = 1;
+    // In blocks: a `for` with a step would have to say first where the last one ends.
     while n - i >= 16 {
         inside = turned_by_sixteen(x, y, v, i, inside);
         i += 16;

@@ -1,10 +1,9 @@
 // glyphs.rs, `clear_of_obstacles` at a margin: mostly without a root.
 ghost use Rattle.std.specs.Prelude.{◌≡◌};
 ghost use Rattle.glyphs.specs.Rect.{rectangles, clear_of_obstacles};
-ghost use Rattle.regions.specs.Margin.{margin_of};
 ghost use Rattle.regions.specs.Pillars.{beyond, rect_square};
 
-use crate::margin::{Margin, root_at_least};
+use crate::margin::Margin;
 use glyphs::rect::{Rectangle, obstacle};
 
 // How far a coordinate is beyond the sides `length` apart around `center`; 0 between them.
@@ -25,13 +24,12 @@ fn rect_square(px: f64, py: f64, rect: Rectangle) -> f64
 
 // Whether (px, py) keeps the margin to every obstacle.
 pub fn clears_obstacles(px: f64, py: f64, obstacles: &[f64], margin: Margin) -> bool
-    requires { margin ≡ margin_of margin.least }
     ensures { result ≡ clear_of_obstacles px py (rectangles obstacles.now) margin.least }
 {
     let n = obstacles.len() / 4;
     let mut k = 0;
     while k < n {
-        if !root_at_least(rect_square(px, py, obstacle(obstacles, k)), margin) {
+        if !margin.root_at_least(rect_square(px, py, obstacle(obstacles, k))) {
             return false;
         }
         k += 1;

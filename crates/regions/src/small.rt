@@ -41,12 +41,10 @@ pub fn ring_clearance(px: f64, py: f64, ring: &[f64], always: bool) -> f64
     let mut ay = vy(ring, 0);
     let mut bx = vx(ring, half);
     let mut by = vy(ring, half);
-    let mut i = 0;
-    while i < half {
+    for i in 0..half {
         let k = after(n, half + i);
-        i += 1;
-        let cx = vx(ring, i);
-        let cy = vy(ring, i);
+        let cx = vx(ring, i + 1);
+        let cy = vy(ring, i + 1);
         let dx = vx(ring, k);
         let dy = vy(ring, k);
         best = closer_edge(px, py, best, ax, ay, cx, cy);

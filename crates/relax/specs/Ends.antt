@@ -11,8 +11,11 @@ use Rattle.regions.specs.Ring.{Piece}
 use Rattle.regions.specs.Unrooted.{rooted}
 use Rattle.relax.specs.declared.Spreading.{Spreading}
 use Rattle.relax.specs.Scatter.{Scatter, idle, around, relax_sweeps, relax_scatter, clearances_of}
-use Rattle.relax.specs.Moves.{scatter_of}
 use Rattle.relax.specs.Kept.{kept_clearances}
+
+-- the marks and their clearances, the roots of these not taken
+abbrev scatter : List Float → List Float → Scatter
+scatter spots unrooted = record { points = spots_of spots; clearance = map rooted unrooted }
 
 module _ (numbers : Spreading) (points : List Point) (piece : Piece) (obstacles : List Rectangle) (spacing inset : Float) where
   when_idle : idle (length points) spacing ≡ true → relax_scatter numbers points piece obstacles spacing inset ≡ points
@@ -34,7 +37,7 @@ module _ (numbers : Spreading) (points : List Point) (piece : Piece) (obstacles 
 
   pub busy_end :
       (spots unrooted : List Float) (n : ℕ) → length spots ≡ n * 2 → idle (length points) spacing ≡ false
-      → scatter_of spots unrooted
+      → scatter spots unrooted
       ≡ relax_sweeps numbers (around numbers points piece obstacles spacing inset) (record { points = points; clearance = clearances_of piece points })
       → (spots ≡ flat (relax_scatter numbers points piece obstacles spacing inset))
       × (map rooted unrooted ≡ clearances_of piece (relax_scatter numbers points piece obstacles spacing inset))

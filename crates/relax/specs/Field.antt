@@ -1,6 +1,6 @@
 -- relax.rs, `Field`: the push on a mark, the clearance's gradient, and whether a mark may move to a place.
--- `Field` is the source's without the piece and the obstacles, which stand beside it, and with the margins of the inset and of the reach.
-use Rattle.std.specs.Prelude.{◌≡◌, Bool, true, not, cond, ◌&&◌, ◌||◌, List, [], ◌∷◌, ℕ, ◌+◌, eqb, get_or, Float}
+-- `Distances` is the source's `Field` without the piece and the obstacles, which stand beside it, and with the margins of the inset and of the reach.
+use Rattle.std.specs.Prelude.{Bool, true, not, cond, Option, Some, None, ◌&&◌, ◌||◌, List, [], ◌∷◌, ℕ, ◌+◌, eqb, get_or, Float}
 use Rattle.std.specs.Float.{nan}
 use Rattle.float.specs.Ops.{◌+ᶠ◌, ◌-ᶠ◌, ◌*ᶠ◌, ◌/ᶠ◌, ◌<ᶠ◌, ◌>ᶠ◌, ◌≤ᶠ◌, ◌≥ᶠ◌, 0ᶠ, literal}
 use Rattle.float.specs.Order.{sqrt, hypot}
@@ -10,15 +10,10 @@ use Rattle.glyphs.specs.Rect.{clear_of_obstacles}
 use Rattle.glyphs.specs.Spots.{apart}
 use Rattle.regions.specs.Ring.{Piece}
 use Rattle.regions.specs.Clearance.{signed_clearance}
-use Rattle.regions.specs.Margin.{margin_of}
-use Rattle.regions.specs.Unrooted.{rooted}
+use Rattle.regions.specs.Margins.{margin_of}
 use Rattle.relax.specs.declared.Spreading.{Spreading}
 use Rattle.relax.specs.declared.push.Force.{Force}
-use Rattle.relax.specs.declared.field.Field.{Field}
-use Rattle.relax.specs.declared.field.Gradient.{Gradient}
-use Rattle.relax.specs.declared.field.Gradient.TheVariants.{Toward, Flat}
-use Rattle.relax.specs.declared.field.Acceptance.{Acceptance}
-use Rattle.relax.specs.declared.field.Acceptance.TheVariants.{Clear, Refused}
+use Rattle.relax.specs.declared.distances.Distances.{Distances}
 
 -- PROBE: 0.25; and 1e-12
 abbrev pub probe_factor : Float
@@ -28,7 +23,7 @@ abbrev pub flatness : Float
 flatness = literal 0x3d71_9799_812d_ea11
 
 -- relax_scatter's `let field = Field { .. }`
-unfoldable pub field_of : Spreading → Float → Float → Field
+unfoldable pub field_of : Spreading → Float → Float → Distances
 field_of numbers spacing inset =
     record {
       spacing = spacing;
@@ -40,14 +35,6 @@ field_of numbers spacing inset =
       boundary_weight = numbers.boundary_weight;
       probe = probe_factor *ᶠ inset;
     }
-
--- the margins are those of the inset and of the reach
-abbrev pub Sound : Field → Type 0
-Sound field = (field.margin ≡ margin_of field.inset) × (field.reach ≡ margin_of field.boundary_reach)
-
-pub field_sound : (numbers : Spreading) (spacing inset : Float) (field : Field) → field ≡ field_of numbers spacing inset → Sound field
-unfolding field_of
-field_sound numbers spacing inset field e = (rw e, rw e)
 
 -- points[i]
 abbrev pub at : List Point → ℕ → Point
@@ -71,22 +58,22 @@ unfoldable pub pushes : Float → ℕ → Point → ℕ → List Point → Force
 pushes influence i p j [] f = f
 pushes influence i p j (q ∷ qs) f = pushes influence i p (j + 1) qs (cond (eqb j i) f (push_of influence p f q))
 
-unfoldable pub clearance_gradient : Field → Piece → Point → Gradient
+unfoldable pub clearance_gradient : Distances → Piece → Point → Option Force
 clearance_gradient field piece p =
     let h = field.probe in
     let gx = signed_clearance (p.x +ᶠ h) p.y piece -ᶠ signed_clearance (p.x -ᶠ h) p.y piece in
     let gy = signed_clearance p.x (p.y +ᶠ h) piece -ᶠ signed_clearance p.x (p.y -ᶠ h) piece in
     let norm = hypot gx gy in
-    cond (norm >ᶠ flatness) (Toward (gx /ᶠ norm) (gy /ᶠ norm)) Flat
+    cond (norm >ᶠ flatness) (Some (record { x = gx /ᶠ norm; y = gy /ᶠ norm })) None
 
 -- the boundary's push along the gradient, added
-unfoldable pub push_inward : Field → Float → Gradient → Force → Force
-push_inward field clearance Flat f = f
-push_inward field clearance (Toward gx gy) f =
+unfoldable pub push_inward : Distances → Float → Option Force → Force → Force
+push_inward field clearance None f = f
+push_inward field clearance (Some g) f =
     let w = field.boundary_weight *ᶠ (field.boundary_reach -ᶠ clearance) /ᶠ field.boundary_reach in
-    record { x = f.x +ᶠ w *ᶠ gx; y = f.y +ᶠ w *ᶠ gy }
+    record { x = f.x +ᶠ w *ᶠ g.x; y = f.y +ᶠ w *ᶠ g.y }
 
-unfoldable pub force_on : Field → Piece → ℕ → List Point → Float → Force
+unfoldable pub force_on : Distances → Piece → ℕ → List Point → Float → Force
 force_on field piece i points clearance =
     let p = at points i in
     let f = pushes field.influence i p 0 points no_force in
@@ -97,16 +84,11 @@ unfoldable pub clear_of_others : Float → Float → Float → ℕ → ℕ → L
 clear_of_others x y spacing2 i j [] = true
 clear_of_others x y spacing2 i j (q ∷ qs) = (eqb j i || apart x y spacing2 q) && clear_of_others x y spacing2 i (j + 1) qs
 
-unfoldable pub accepts : Field → Piece → List Rectangle → Point → ℕ → List Point → Bool → Acceptance
+unfoldable pub accepts : Distances → Piece → List Rectangle → Point → ℕ → List Point → Bool → Option Float
 accepts field piece obstacles candidate i points honoring =
     let x = candidate.x in
     let y = candidate.y in
     let clearance = signed_clearance x y piece in
-    cond (clearance <ᶠ field.inset) Refused
-    (cond (honoring && not (clear_of_obstacles x y obstacles field.inset)) Refused
-    (cond (clear_of_others x y (field.spacing *ᶠ field.spacing) i 0 points) (Clear clearance) Refused))
-
--- the code's answer has a clearance whose root is not taken
-unfoldable pub told : Acceptance → Acceptance
-told (Clear unrooted) = Clear (rooted unrooted)
-told Refused = Refused
+    cond (clearance <ᶠ field.inset) None
+    (cond (honoring && not (clear_of_obstacles x y obstacles field.inset)) None
+    (cond (clear_of_others x y (field.spacing *ᶠ field.spacing) i 0 points) (Some clearance) None))

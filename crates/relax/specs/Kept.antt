@@ -1,6 +1,6 @@
 -- The clearance that is kept beside a mark is the clearance of its place, whatever the sweeps do, and no mark comes or goes.
 -- Rests on the definitions: a mark moves only with the clearance that its acceptance found.
-use Rattle.std.specs.Prelude.{◌≡◌, refl, Bool, cond, ◌&&◌, ◌||◌, length, get_or, Float}
+use Rattle.std.specs.Prelude.{◌≡◌, refl, Bool, cond, Some, None, ◌&&◌, ◌||◌, length, get_or, Float}
 use Rattle.std.proofs.Common.{◌∙◌, length-set}
 use Rattle.std.proofs.Math.Bool.{true, false, not}
 use mathlib.Core.List.{List, [], ◌∷◌, foldl}
@@ -15,7 +15,6 @@ use Rattle.glyphs.specs.Rect.{clear_of_obstacles, is_finite}
 use Rattle.regions.specs.Ring.{Piece}
 use Rattle.regions.specs.Clearance.{signed_clearance}
 use Rattle.relax.specs.declared.Spreading.{Spreading}
-use Rattle.relax.specs.declared.field.Acceptance.TheVariants.{Clear, Refused}
 use Rattle.relax.specs.Field.{at, force_on, clear_of_others, accepts}
 use Rattle.relax.specs.Scatter.{
   Scatter,
@@ -45,7 +44,7 @@ module _ (e : Surroundings) (P : Scatter → Type 0)
     (again : (s : Scatter) (i : ℕ) (p : Point) → P s → P (moved s i p (signed_clearance p.x p.y e.piece))) where
   keeps_answer :
       (s : Scatter) (i : ℕ) (p : Point) (a b c : Bool) (o : Scatter) → P s → P o
-      → P (settle s i p (cond a Refused (cond b Refused (cond c (Clear (signed_clearance p.x p.y e.piece)) Refused))) o)
+      → P (settle s i p (cond a None (cond b None (cond c (Some (signed_clearance p.x p.y e.piece)) None))) o)
   unfolding settle
   keeps_answer s i p true b c o h k = k
   keeps_answer s i p false true c o h k = k

@@ -1,6 +1,6 @@
 -- The other marks are those before mark i and those after it; none of them is too near where no more are than mark i alone; marks too far away push nothing, so that those near enough may be gathered; and the order of an acceptance's tests does not matter.
 -- Rests on the definitions and the laws of `all`.
-use Rattle.std.specs.Prelude.{◌≡◌, Bool, not, cond, ◌&&◌, ◌||◌, length, get_or, take, drop, set, Float}
+use Rattle.std.specs.Prelude.{◌≡◌, Bool, not, cond, Some, None, ◌&&◌, ◌||◌, length, get_or, take, drop, set, Float}
 use Rattle.std.proofs.Math.Path.{refl, sym}
 use Rattle.std.proofs.Common.{◌∙◌, add-one, le_refl, length-set, get_or-set_same}
 use Rattle.std.proofs.Math.Bool.{true, false, and_assoc, or-true}
@@ -23,12 +23,11 @@ use Rattle.glyphs.specs.Rect.{clear_of_obstacles}
 use Rattle.glyphs.specs.Spots.{apart, near_count}
 use Rattle.regions.specs.Ring.{Piece}
 use Rattle.regions.specs.Clearance.{signed_clearance}
-use Rattle.regions.specs.Margin.{margin_of, least_of_margin}
+use Rattle.regions.specs.Margins.{margin_of, least_of_margin}
 use Rattle.regions.specs.Unrooted.{rooted}
 use Rattle.regions.specs.declared.margin.Margin.{Margin}
 use Rattle.relax.specs.declared.push.Force.{Force}
-use Rattle.relax.specs.declared.field.Field.{Field}
-use Rattle.relax.specs.declared.field.Acceptance.TheVariants.{Clear, Refused}
+use Rattle.relax.specs.declared.distances.Distances.{Distances}
 use Rattle.relax.specs.Field.{push_of, pushes, clear_of_others, accepts}
 
 -- ---- the spacing test
@@ -179,20 +178,20 @@ reordered false false true v r = refl
 reordered false false false v r = refl
 
 pub accepts_reordered :
-    (field : Field) (piece : Piece) (obstacles : List Rectangle) (candidate : Point) (i : ℕ) (points : List Point) (honoring : Bool)
+    (field : Distances) (piece : Piece) (obstacles : List Rectangle) (candidate : Point) (i : ℕ) (points : List Point) (honoring : Bool)
     → accepts field piece obstacles candidate i points honoring
     ≡ cond (clear_of_others candidate.x candidate.y (field.spacing *ᶠ field.spacing) i 0 points)
     (cond (not (honoring && not (clear_of_obstacles candidate.x candidate.y obstacles field.inset)))
-    (cond (signed_clearance candidate.x candidate.y piece <ᶠ field.inset) Refused (Clear (signed_clearance candidate.x candidate.y piece)))
-    Refused)
-    Refused
+    (cond (signed_clearance candidate.x candidate.y piece <ᶠ field.inset) None (Some (signed_clearance candidate.x candidate.y piece)))
+    None)
+    None
 unfolding accepts
 accepts_reordered field piece obstacles candidate i points honoring =
     reordered (signed_clearance candidate.x candidate.y piece <ᶠ field.inset)
     (honoring && not (clear_of_obstacles candidate.x candidate.y obstacles field.inset))
     (clear_of_others candidate.x candidate.y (field.spacing *ᶠ field.spacing) i 0 points)
-    (Clear (signed_clearance candidate.x candidate.y piece))
-    Refused
+    (Some (signed_clearance candidate.x candidate.y piece))
+    None
 
 -- ---- a clearance whose root is not taken, compared with a margin's
 pub below_margin : (m : Margin) (c u : Float) → m ≡ margin_of c → rooted u <ᶠ m.least ≡ rooted u <ᶠ c

@@ -1,5 +1,5 @@
 -- relax.rs, `relax_scatter`: sweeps over a scatter, each mark moved where it may. Definitions only.
-use Rattle.std.specs.Prelude.{Bool, false, not, cond, ◌||◌, ℕ, zero, suc, eqb, length, get_or, set, Float}
+use Rattle.std.specs.Prelude.{Bool, false, not, Option, Some, None, cond, ◌||◌, ℕ, zero, suc, eqb, length, get_or, set, Float}
 use mathlib.Core.List.{List, map, foldl}
 use Rattle.std.specs.Float.{nan}
 use Rattle.laws.specs.Lists.{up_to}
@@ -13,9 +13,7 @@ use Rattle.regions.specs.Ring.{Piece}
 use Rattle.regions.specs.Clearance.{signed_clearance}
 use Rattle.relax.specs.Field.{field_of, at, force_on, accepts}
 use Rattle.relax.specs.declared.Spreading.{Spreading}
-use Rattle.relax.specs.declared.field.Field.{Field}
-use Rattle.relax.specs.declared.field.Acceptance.{Acceptance}
-use Rattle.relax.specs.declared.field.Acceptance.TheVariants.{Clear, Refused}
+use Rattle.relax.specs.declared.distances.Distances.{Distances}
 
 -- SWEEPS: 8, INFLUENCE: 1.5, BOUNDARY_INFLUENCE: 2.0, BOUNDARY_WEIGHT: 0.75, MAX_STEP: 0.35 and BACKTRACKS: 2
 abbrev pub source : Spreading
@@ -39,9 +37,9 @@ abbrev pub moved : Scatter → ℕ → Point → Float → Scatter
 moved s i candidate c = record { points = set s.points i candidate; clearance = set s.clearance i c }
 
 -- what becomes of a candidate: the mark moves there, or what else is tried
-unfoldable pub settle : Scatter → ℕ → Point → Acceptance → Scatter → Scatter
-settle s i candidate (Clear c) otherwise = moved s i candidate c
-settle s i candidate Refused otherwise = otherwise
+unfoldable pub settle : Scatter → ℕ → Point → Option Float → Scatter → Scatter
+settle s i candidate (Some c) otherwise = moved s i candidate c
+settle s i candidate None otherwise = otherwise
 
 -- p, moved by a step in the direction (ux, uy)
 abbrev pub stepped : Point → Float → Float → Float → Point
@@ -49,7 +47,7 @@ stepped p ux uy step = record { x = p.x +ᶠ ux *ᶠ step; y = p.y +ᶠ uy *ᶠ 
 
 -- What every sweep reads and none changes.
 pub record Surroundings : Type 0 where
-  pub field : Field
+  pub field : Distances
   pub piece : Piece
   pub obstacles : List Rectangle
   pub honoring : List Bool

@@ -1,7 +1,9 @@
 //! relax.rs: a scatter of marks evened out.
 #![tactic(auto)]
 
+pub mod distances;
 pub mod field;
+pub mod marks;
 pub mod moves;
 pub mod push;
 pub mod sweeps;

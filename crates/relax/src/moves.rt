@@ -1,129 +1,119 @@
 // relax.rs, `relax_scatter`: one mark of a sweep.
-ghost use Rattle.std.specs.Prelude.{◌≡◌, suc, ◌*◌, ◌/◌, ◌≤◌, ◌<◌, length};
+ghost use Rattle.std.specs.Prelude.{◌≡◌, suc, ◌/◌, ◌<◌, length};
 ghost use Rattle.glyphs.specs.Rect.{rectangles};
 ghost use Rattle.glyphs.specs.Spots.{spots_of};
-ghost use Rattle.regions.specs.Ring.{sum, piece_of};
-ghost use Rattle.relax.specs.Field.{Sound};
+ghost use Rattle.regions.specs.Pieces.{rings_of};
 ghost use Rattle.relax.specs.Scatter.{relax_point};
-ghost use Rattle.relax.specs.Moves.{scatter_of, surroundings, first_accepted, pushed_to, settled, told_of};
+ghost use Rattle.relax.specs.Moves.{scatter_of, surroundings, first_accepted, pushed_to, settled, told_of, Keeps};
 
 use crate::Spreading;
-use crate::field::{Acceptance, Field};
+use crate::field::Field;
+use crate::marks::Marks;
 use crate::push::Force;
 use glyphs::rect::{Point, is_finite};
 use glyphs::spots::{put_spot, spot};
 
-// What becomes of a mark: a new place and its clearance, the root not taken, or nothing.
+// Where a mark moves to, and the clearance of that place, its root not taken.
 #[derive(Clone, Copy)]
-pub enum Move {
-    To(f64, f64, f64),
-    Stay,
+pub struct Move {
+    pub to: Point,
+    pub clearance: f64,
 }
 
 // A step of length `first` in a direction, halved at each refusal, `backtracks` times at most.
 fn first_accepted(
-    field: Field,
+    field: &Field,
     i: usize,
     spots: &[f64],
     honoring: bool,
-    obstacles: &[f64],
-    sizes: &[usize],
-    coords: &[f64],
     towards: Force,
     backtracks: u32,
     first: f64,
-) -> Move
-    requires { (i < length spots.now / 2) × (0 < length sizes.now) × (sum sizes.now * 2 ≤ length coords.now) × Sound field }
-    ensures { told_of result ≡ first_accepted field (piece_of sizes.now coords.now) (rectangles obstacles.now) i (spots_of spots.now) honoring towards (suc backtracks) first }
+) -> Option<Move>
+    requires { i < length spots.now / 2 }
+    ensures { told_of result ≡ first_accepted field.now.distances (rings_of field.now.piece) (rectangles field.now.obstacles.now) i (spots_of spots.now) honoring towards (suc backtracks) first }
 {
     let p = spot(spots, i);
     let mut step = first;
-    let mut left = backtracks;
-    loop {
-        let candidate = Point {
+    for _ in 0..=backtracks {
+        let to = Point {
             x: p.x + towards.x * step,
             y: p.y + towards.y * step,
         };
-        let answer = field.accepts(candidate, i, spots, honoring, obstacles, sizes, coords);
-        if let Acceptance::Clear(c) = answer {
-            return Move::To(candidate.x, candidate.y, c);
-        }
-        if left == 0 {
-            return Move::Stay;
+        if let Some(clearance) = field.accepts(to, i, spots, honoring) {
+            return Some(Move { to, clearance });
         }
         step = step * 0.5;
-        left -= 1;
     }
+    None
 }
 
 // Where a push moves mark `i` to.
 fn pushed_to(
-    field: Field,
+    field: &Field,
     i: usize,
     spots: &[f64],
     honoring: bool,
-    obstacles: &[f64],
-    sizes: &[usize],
-    coords: &[f64],
     f: Force,
     backtracks: u32,
     max_step: f64,
-) -> Move
-    requires { (i < length spots.now / 2) × (0 < length sizes.now) × (sum sizes.now * 2 ≤ length coords.now) × Sound field }
-    ensures { told_of result ≡ pushed_to field (piece_of sizes.now coords.now) (rectangles obstacles.now) i (spots_of spots.now) honoring f (suc backtracks) max_step }
+) -> Option<Move>
+    requires { i < length spots.now / 2 }
+    ensures { told_of result ≡ pushed_to field.now.distances (rings_of field.now.piece) (rectangles field.now.obstacles.now) i (spots_of spots.now) honoring f (suc backtracks) max_step }
 {
     let magnitude = float::hypot(f.x, f.y);
     if !is_finite(magnitude) | (magnitude <= 0.0) {
-        return Move::Stay;
+        return None;
     }
     let towards = Force {
         x: f.x / magnitude,
         y: f.y / magnitude,
     };
     let step = max_step * float::min(magnitude, 1.0);
-    first_accepted(
-        field, i, spots, honoring, obstacles, sizes, coords, towards, backtracks, step,
-    )
+    first_accepted(field, i, spots, honoring, towards, backtracks, step)
 }
 
-fn settle(m: Move, i: usize, spots: &mut [f64], unrooted: &mut [f64])
-    requires { (i < length unrooted.old) × (length spots.old ≡ length unrooted.old * 2) }
-    ensures { scatter_of spots.new unrooted.new ≡ settled (scatter_of spots.old unrooted.old) i (told_of m) }
+// Moves mark `i`, if it moves.
+fn settle(marks: &mut Marks, i: usize, moved: Option<Move>)
+    requires { i < length marks.old.honoring.now }
+    ensures keeps { Keeps marks.old marks.new }
+    ensures moved { scatter_of marks.new ≡ settled (scatter_of marks.old) i (told_of moved) }
 {
-    let Move::To(x, y, c) = m else {
+    let Some(m) = moved else {
         return;
     };
-    put_spot(&mut spots[..], i, Point { x, y });
-    unrooted[i] = c;
+    put_spot(&mut marks.spots[..], i, m.to);
+    marks.unrooted[i] = m.clearance;
 }
 
-pub fn relax_point(
+// Where mark `i` moves to in a sweep with steps of `max_step` at most.
+fn move_of(
     numbers: Spreading,
-    field: Field,
+    field: &Field,
     max_step: f64,
+    marks: &Marks,
     i: usize,
-    spots: &mut [f64],
-    unrooted: &mut [f64],
-    honoring: &[f64],
-    obstacles: &[f64],
-    sizes: &[usize],
-    coords: &[f64],
-)
-    requires { (i < length unrooted.old) × (length spots.old ≡ length unrooted.old * 2) × (length honoring.now ≡ length unrooted.old) × (0 < length sizes.now) × (sum sizes.now * 2 ≤ length coords.now) × Sound field }
-    ensures { scatter_of spots.new unrooted.new ≡ relax_point numbers (surroundings field honoring.now obstacles.now sizes.now coords.now) max_step (scatter_of spots.old unrooted.old) i }
+) -> Option<Move>
+    requires { i < length marks.now.honoring.now }
+    ensures { settled (scatter_of marks.now) i (told_of result) ≡ relax_point numbers (surroundings field.now marks.now.honoring.now) max_step (scatter_of marks.now) i }
 {
-    let f = field.force_on(i, &spots[..], unrooted[i], sizes, coords);
-    let m = pushed_to(
+    let f = field.force_on(i, marks.spots, marks.unrooted[i]);
+    pushed_to(
         field,
         i,
-        &spots[..],
-        honoring[i] > 0.0,
-        obstacles,
-        sizes,
-        coords,
+        marks.spots,
+        marks.honoring[i],
         f,
         numbers.backtracks,
         max_step,
-    );
-    settle(m, i, &mut spots[..], &mut unrooted[..]);
+    )
+}
+
+pub fn relax_point(numbers: Spreading, field: &Field, max_step: f64, marks: &mut Marks, i: usize)
+    requires { i < length marks.old.honoring.now }
+    ensures keeps { Keeps marks.old marks.new }
+    ensures moved { scatter_of marks.new ≡ relax_point numbers (surroundings field.now marks.old.honoring.now) max_step (scatter_of marks.old) i }
+{
+    let moved = move_of(numbers, field, max_step, marks, i);
+    settle(marks, i, moved);
 }

@@ -62,9 +62,9 @@ fn push_two(influence: f64, p: Point, f: Force, q: Point, r: Point) -> Force
     let d2 = square_between(p, q);
     let e2 = square_between(p, r);
     if reaches(influence, d2) & reaches(influence, e2) {
-        let d = float::two_roots(d2, e2);
-        let first = pushed(influence, p, f, q, d.a);
-        return pushed(influence, p, first, r, d.b);
+        let [d, e] = float::each_root([d2, e2]);
+        let first = pushed(influence, p, f, q, d);
+        return pushed(influence, p, first, r, e);
     }
     push(influence, p, push(influence, p, f, q), r)
 }
@@ -75,13 +75,12 @@ fn push_near(influence: f64, p: Point, start: Force, spots: &[f64]) -> Force
 {
     let n = spots.len() / 2;
     let mut f = start;
-    let mut k = 0;
-    while n - k >= 2 {
+    for pair in 0..n / 2 {
+        let k = pair * 2;
         f = push_two(influence, p, f, spot(spots, k), spot(spots, k + 1));
-        k += 2;
     }
-    if k < n {
-        return push(influence, p, f, spot(spots, k));
+    if n % 2 == 1 {
+        return push(influence, p, f, spot(spots, n - 1));
     }
     f
 }
@@ -103,15 +102,12 @@ fn push_eight(influence: f64, p: Point, start: Force, spots: &[f64], k: usize) -
 fn push_all(influence: f64, p: Point, start: Force, spots: &[f64]) -> Force
     ensures { result ≡ foldl (push_of influence p) start (spots_of spots.now) }
 {
-    let n = spots.len() / 2;
+    let blocks = spots.len() / 2 / 8;
     let mut f = start;
-    let mut k = 0;
-    while n - k >= 8 {
-        f = push_eight(influence, p, f, spots, k);
-        k += 8;
+    for block in 0..blocks {
+        f = push_eight(influence, p, f, spots, block * 8);
     }
-    let a = k * 2;
-    push_near(influence, p, f, &spots[a..])
+    push_near(influence, p, f, &spots[blocks * 16..])
 }
 
 // Puts the marks of a slice that are near enough to push behind the `m` of a list, and answers how many there are then.
@@ -121,15 +117,12 @@ fn gather(influence: f64, p: Point, spots: &[f64], near: &mut [f64], m: usize) -
     ensures { (result ≤ m + length spots.now / 2) × (length near.new ≡ length near.old) × ((f : Force) → foldl (push_of influence p) f (take result (spots_of near.new)) ≡ foldl (push_of influence p) (foldl (push_of influence p) f (take m (spots_of near.old))) (spots_of spots.now)) }
 {
     let reach = influence * influence;
-    let n = spots.len() / 2;
     let mut count = m;
-    let mut k = 0;
-    while k < n {
+    for k in 0..spots.len() / 2 {
         let q = spot(spots, k);
         put_spot(&mut near[..], count, q);
         let far = apart(p.x, p.y, reach, q);
         count += (!far) as usize;
-        k += 1;
     }
     count
 }

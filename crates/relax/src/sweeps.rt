@@ -1,25 +1,27 @@
-// relax.rs, `relax_scatter`. The clearances, their roots not taken, and the flags are kept in slices of one float for
-// each mark.
-ghost use Rattle.std.specs.Prelude.{◌≡◌, map, ◌*◌, ◌/◌, ◌≤◌, ◌<◌, length};
+// relax.rs, `relax_scatter`.
+ghost use Rattle.std.specs.Prelude.{◌≡◌, map, ◌*◌, length};
 ghost use Rattle.glyphs.specs.Rect.{rectangles};
 ghost use Rattle.glyphs.specs.Spots.{spots_of, flat};
-ghost use Rattle.regions.specs.Ring.{sum, piece_of};
+ghost use Rattle.regions.specs.Pieces.{rings_of};
 ghost use Rattle.regions.specs.Unrooted.{rooted};
-ghost use Rattle.relax.specs.Field.{Sound};
 ghost use Rattle.relax.specs.Scatter.{max_step_of, relax_sweep, relax_sweeps, relax_scatter, clearances_of, honoring_of, idle};
-ghost use Rattle.relax.specs.Moves.{scatter_of, surroundings, flag_of};
+ghost use Rattle.relax.specs.Moves.{scatter_of, surroundings, Keeps};
 ghost use Rattle.relax.specs.Notes.{unrooted_of};
 
 use crate::Spreading;
+use crate::distances::Distances;
 use crate::field::Field;
+use crate::marks::Marks;
 use crate::moves::relax_point;
 use glyphs::rect::is_finite;
 use glyphs::spots::spot;
 use regions::margin::Margin;
+use regions::piece::RegionPiece;
 use regions::pillars::clears_obstacles;
 use regions::unrooted::unrooted_clearance;
 
 // The greatest step of sweep `k`.
+#[tactic(auto, unfolding(crate::specs::Scatter::max_step_of))]
 fn longest_step(numbers: Spreading, spacing: f64, k: u32) -> f64
     ensures { result ≡ max_step_of numbers spacing k }
 {
@@ -27,103 +29,47 @@ fn longest_step(numbers: Spreading, spacing: f64, k: u32) -> f64
     numbers.max_step * spacing * cooling
 }
 
-fn relax_sweep(
-    numbers: Spreading,
-    field: Field,
-    k: u32,
-    spots: &mut [f64],
-    unrooted: &mut [f64],
-    honoring: &[f64],
-    obstacles: &[f64],
-    sizes: &[usize],
-    coords: &[f64],
-)
-    requires { (length spots.old ≡ length unrooted.old * 2) × (length honoring.now ≡ length unrooted.old) × (0 < length sizes.now) × (sum sizes.now * 2 ≤ length coords.now) × Sound field }
-    ensures { scatter_of spots.new unrooted.new ≡ relax_sweep numbers (surroundings field honoring.now obstacles.now sizes.now coords.now) (scatter_of spots.old unrooted.old) k }
+fn relax_sweep(numbers: Spreading, field: &Field, k: u32, marks: &mut Marks)
+    ensures keeps { Keeps marks.old marks.new }
+    ensures moved { scatter_of marks.new ≡ relax_sweep numbers (surroundings field.now marks.old.honoring.now) (scatter_of marks.old) k }
 {
-    let max_step = longest_step(numbers, field.spacing, k);
-    let mut i = 0;
-    while i < honoring.len() {
-        relax_point(
-            numbers,
-            field,
-            max_step,
-            i,
-            &mut spots[..],
-            &mut unrooted[..],
-            honoring,
-            obstacles,
-            sizes,
-            coords,
-        );
-        i += 1;
+    let max_step = longest_step(numbers, field.distances.spacing, k);
+    for i in 0..marks.honoring.len() {
+        relax_point(numbers, field, max_step, marks, i);
     }
 }
 
-fn relax_sweeps(
-    numbers: Spreading,
-    field: Field,
-    spots: &mut [f64],
-    unrooted: &mut [f64],
-    honoring: &[f64],
-    obstacles: &[f64],
-    sizes: &[usize],
-    coords: &[f64],
-)
-    requires { (length spots.old ≡ length unrooted.old * 2) × (length honoring.now ≡ length unrooted.old) × (0 < length sizes.now) × (sum sizes.now * 2 ≤ length coords.now) × Sound field }
-    ensures { scatter_of spots.new unrooted.new ≡ relax_sweeps numbers (surroundings field honoring.now obstacles.now sizes.now coords.now) (scatter_of spots.old unrooted.old) }
+fn relax_sweeps(numbers: Spreading, field: &Field, marks: &mut Marks)
+    ensures keeps { Keeps marks.old marks.new }
+    ensures moved { scatter_of marks.new ≡ relax_sweeps numbers (surroundings field.now marks.old.honoring.now) (scatter_of marks.old) }
 {
-    let mut k = 0u32;
-    while k < numbers.sweeps {
-        relax_sweep(
-            numbers,
-            field,
-            k,
-            &mut spots[..],
-            &mut unrooted[..],
-            honoring,
-            obstacles,
-            sizes,
-            coords,
-        );
-        k += 1;
+    for k in 0..numbers.sweeps {
+        relax_sweep(numbers, field, k, marks);
     }
 }
 
-fn note_unrooted(spots: &[f64], unrooted: &mut [f64], sizes: &[usize], coords: &[f64])
-    requires { (length spots.now ≡ length unrooted.old * 2) × (0 < length sizes.now) × (sum sizes.now * 2 ≤ length coords.now) }
-    ensures { unrooted.new ≡ unrooted_of (piece_of sizes.now coords.now) (spots_of spots.now) }
+fn note_unrooted(spots: &[f64], unrooted: &mut [f64], piece: RegionPiece)
+    requires { length spots.now ≡ length unrooted.old * 2 }
+    ensures { unrooted.new ≡ unrooted_of (rings_of piece.entry) (spots_of spots.now) }
 {
-    let mut i = 0;
-    while i < unrooted.len() {
+    for (i, note) in unrooted.iter_mut().enumerate() {
         let p = spot(spots, i);
-        unrooted[i] = unrooted_clearance(p.x, p.y, sizes, coords);
-        i += 1;
+        *note = unrooted_clearance(p.x, p.y, piece);
     }
 }
 
-fn flag(b: bool) -> f64
-    ensures { result ≡ flag_of b }
-{
-    if b {
-        return 1.0;
-    }
-    0.0
-}
-
-fn note_honoring(spots: &[f64], honoring: &mut [f64], obstacles: &[f64], inset: f64)
+fn note_honoring(spots: &[f64], honoring: &mut [bool], obstacles: &[f64], inset: f64)
     requires { length spots.now ≡ length honoring.old * 2 }
-    ensures { honoring.new ≡ map flag_of (honoring_of (rectangles obstacles.now) inset (spots_of spots.now)) }
+    ensures { honoring.new ≡ honoring_of (rectangles obstacles.now) inset (spots_of spots.now) }
 {
     let margin = Margin::of(inset);
-    let mut i = 0;
-    while i < honoring.len() {
+    for (i, note) in honoring.iter_mut().enumerate() {
         let p = spot(spots, i);
-        honoring[i] = flag(clears_obstacles(p.x, p.y, obstacles, margin));
-        i += 1;
+        *note = clears_obstacles(p.x, p.y, obstacles, margin);
     }
 }
 
+#[tactic(auto, unfolding(crate::specs::Scatter::idle))]
 fn idle(count: usize, spacing: f64) -> bool
     ensures { result ≡ idle count spacing }
 {
@@ -133,37 +79,37 @@ fn idle(count: usize, spacing: f64) -> bool
     !is_finite(spacing) | (spacing <= 0.0)
 }
 
-// Evens the marks out. At exit `unrooted` has the clearance of each, its root not taken, and `honoring` is 1 for those that were
-// clear of the obstacles at entry, else 0.
+// Evens the marks out. At exit `unrooted` has the clearance of each, its root not taken, and `honoring` whether it was clear of
+// the obstacles at entry.
 pub fn relax_scatter(
     numbers: Spreading,
     spots: &mut [f64],
     unrooted: &mut [f64],
-    honoring: &mut [f64],
-    sizes: &[usize],
-    coords: &[f64],
+    honoring: &mut [bool],
+    piece: RegionPiece,
     obstacles: &[f64],
     spacing: f64,
     inset: f64,
 )
-    requires { (length spots.old ≡ length unrooted.old * 2) × (length honoring.old ≡ length unrooted.old) × (0 < length sizes.now) × (sum sizes.now * 2 ≤ length coords.now) }
-    ensures spots { spots.new ≡ flat (relax_scatter numbers (spots_of spots.old) (piece_of sizes.now coords.now) (rectangles obstacles.now) spacing inset) }
-    ensures unrooted { map rooted unrooted.new ≡ clearances_of (piece_of sizes.now coords.now) (relax_scatter numbers (spots_of spots.old) (piece_of sizes.now coords.now) (rectangles obstacles.now) spacing inset) }
-    ensures honoring { honoring.new ≡ map flag_of (honoring_of (rectangles obstacles.now) inset (spots_of spots.old)) }
+    requires { (length spots.old ≡ length unrooted.old * 2) × (length honoring.old ≡ length unrooted.old) }
+    ensures spots { spots.new ≡ flat (relax_scatter numbers (spots_of spots.old) (rings_of piece.entry) (rectangles obstacles.now) spacing inset) }
+    ensures unrooted { map rooted unrooted.new ≡ clearances_of (rings_of piece.entry) (relax_scatter numbers (spots_of spots.old) (rings_of piece.entry) (rectangles obstacles.now) spacing inset) }
+    ensures honoring { honoring.new ≡ honoring_of (rectangles obstacles.now) inset (spots_of spots.old) }
 {
     note_honoring(&spots[..], &mut honoring[..], obstacles, inset);
-    note_unrooted(&spots[..], &mut unrooted[..], sizes, coords);
+    note_unrooted(&spots[..], &mut unrooted[..], piece);
     if idle(honoring.len(), spacing) {
         return;
     }
-    relax_sweeps(
-        numbers,
-        Field::of(numbers, spacing, inset),
-        &mut spots[..],
-        &mut unrooted[..],
-        &honoring[..],
+    let field = Field {
+        piece,
         obstacles,
-        sizes,
-        coords,
-    );
+        distances: Distances::of(numbers, spacing, inset),
+    };
+    let mut marks = Marks {
+        spots: &mut spots[..],
+        unrooted: &mut unrooted[..],
+        honoring: &honoring[..],
+    };
+    relax_sweeps(numbers, &field, &mut marks);
 }

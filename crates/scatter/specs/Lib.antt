@@ -1,7 +1,7 @@
 pub mod Cells
 pub mod Darts
-pub mod Front
 pub mod LowDiscrepancy
 pub mod Passes
 pub mod Placed
 pub mod Random
+pub mod Sites

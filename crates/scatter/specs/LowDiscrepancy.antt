@@ -1,5 +1,5 @@
 -- discs.rs, `pack_low_discrepancy_piece`: a Halton sequence filtered by clearance and spacing. Definitions only.
-use Rattle.std.specs.Prelude.{Bool, true, false, not, cond, ◌&&◌, ◌||◌, List, [], ◌∷◌, ◌++◌, ℕ, zero, suc, ◌+◌, ◌*◌, min, max, eqb, ℤ, pos, negsuc, length, Float}
+use Rattle.std.specs.Prelude.{Bool, true, false, not, cond, ◌&&◌, ◌||◌, Option, Some, None, List, [], ◌∷◌, ◌++◌, ℕ, zero, suc, ◌+◌, ◌*◌, min, max, eqb, ℤ, pos, negsuc, length, Float}
 use Rattle.std.proofs.Math.IntN.{suc_ℤ, pred_ℤ}
 use Rattle.laws.specs.Any.{all}
 use Rattle.float.specs.Ops.{◌+ᶠ◌, ◌-ᶠ◌, ◌*ᶠ◌, ◌/ᶠ◌, ◌≥ᶠ◌, ε}
@@ -7,8 +7,7 @@ use Rattle.float.specs.Order as Float
 use Rattle.float.specs.Whole.{floor, as_i64}
 use Rattle.glyphs.specs.declared.rect.Point.{Point}
 use Rattle.glyphs.specs.declared.rect.Rectangle.{Rectangle}
-use Rattle.glyphs.specs.declared.bounds.Bounds.{Bounds}
-use Rattle.glyphs.specs.declared.bounds.Bounds.TheVariants.{Box, Nothing}
+use Rattle.glyphs.specs.declared.bounds.Extents.{Extents}
 use Rattle.glyphs.specs.Bounds.{ring_bounds}
 use Rattle.glyphs.specs.Halton.{radical_inverse}
 use Rattle.glyphs.specs.Rect.{clear_of_obstacles}
@@ -18,8 +17,6 @@ use Rattle.lattice.specs.Context.{inset, spacing}
 use Rattle.lattice.specs.Escape.{point, squared_distance, escape_obstacles}
 use Rattle.lattice.specs.Uniform.{local_to}
 use Rattle.lattice.specs.declared.context.PackCtx.{PackCtx}
-use Rattle.scatter.specs.declared.low.Anchor.{Anchor}
-use Rattle.scatter.specs.declared.low.Anchor.TheVariants.{Nowhere, At}
 
 -- ---- cells
 
@@ -52,12 +49,12 @@ halton_point min-x max-x min-y max-y index =
     point (min-x +ᶠ (max-x -ᶠ min-x) *ᶠ radical_inverse (index + 1) 2) (min-y +ᶠ (max-y -ᶠ min-y) *ᶠ radical_inverse (index + 1) 3)
 
 -- anchor.filter(|_| index == 0).unwrap_or_else(..)
-abbrev pub first_or : Anchor → ℕ → Point → Point
-first_or Nowhere index p = p
-first_or (At place) zero p = place
-first_or (At place) (suc index) p = p
+abbrev pub first_or : Option Point → ℕ → Point → Point
+first_or None index p = p
+first_or (Some place) zero p = place
+first_or (Some place) (suc index) p = p
 
-module _ (piece : Piece) (n : ℕ) (ctx : PackCtx) (near : List Rectangle) (anchor : Anchor) (min-x max-x min-y max-y : Float) where
+module _ (piece : Piece) (n : ℕ) (ctx : PackCtx) (near : List Rectangle) (anchor : Option Point) (min-x max-x min-y max-y : Float) where
   abbrev pub cell_size : Float
   cell_size = Float.max (spacing ctx) ε
 
@@ -90,14 +87,14 @@ module _ (piece : Piece) (n : ℕ) (ctx : PackCtx) (near : List Rectangle) (anch
       cond (ctx.mode.strict_obstacles || eqb (length near) 0) placed (pass false (budget n) 0 placed)
 
 -- `anchor` is the place that a lone mark tries first
-unfoldable pub pack_within : Bounds → Anchor → Piece → ℕ → PackCtx → List Rectangle → List Point
-pack_within Nothing anchor piece n ctx obstacles = []
-pack_within (Box min-x max-x min-y max-y) anchor piece n ctx obstacles =
-    passes piece n ctx (local_to piece obstacles (inset ctx)) anchor min-x max-x min-y max-y
+unfoldable pub pack_within : Option Extents → Option Point → Piece → ℕ → PackCtx → List Rectangle → List Point
+pack_within None anchor piece n ctx obstacles = []
+pack_within (Some e) anchor piece n ctx obstacles =
+    passes piece n ctx (local_to piece obstacles (inset ctx)) anchor e.min_x e.max_x e.min_y e.max_y
 
-unfoldable pub pack_scatter : Anchor → Piece → ℕ → PackCtx → List Rectangle → List Point
+unfoldable pub pack_scatter : Option Point → Piece → ℕ → PackCtx → List Rectangle → List Point
 pack_scatter anchor piece n ctx obstacles = cond (eqb n 0) [] (pack_within (ring_bounds (outer piece)) anchor piece n ctx obstacles)
 
 -- (n == 1).then(|| the deepest point).map(escape_obstacles), from the deepest point
-unfoldable pub lone_anchor : Point → Piece → ℕ → PackCtx → List Rectangle → Anchor
-lone_anchor poi piece n ctx obstacles = cond (eqb n 1) (At (escape_obstacles poi piece (local_to piece obstacles (inset ctx)) (inset ctx))) Nowhere
+unfoldable pub lone_anchor : Point → Piece → ℕ → PackCtx → List Rectangle → Option Point
+lone_anchor poi piece n ctx obstacles = cond (eqb n 1) (Some (escape_obstacles poi piece (local_to piece obstacles (inset ctx)) (inset ctx))) None

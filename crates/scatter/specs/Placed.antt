@@ -1,12 +1,16 @@
--- Spots placed one after another at the front of a slice, x and y in turn.
+-- Spots placed one after another at the front of a slice, x and y in turn: read back, one more put behind them, and written over.
 -- Rests on the laws of written lists.
 use Rattle.std.specs.Prelude.{◌≡◌, refl, Bool, true, false, cond, List, [], ◌∷◌, ◌++◌, ℕ, ◌+◌, ◌-◌, ◌*◌, ◌≤◌, ◌<◌, Float, length, take, drop}
 use Rattle.std.proofs.Common.{sym, ap, ◌∙◌, append_assoc, arith, length-append, take-append-drop, length-take-le, drop-drop}
 use Rattle.std.proofs.Math.Seq.{drop-append-add}
 use Rattle.laws.specs.Lists.{written, written_next, length_written}
 use Rattle.glyphs.specs.declared.rect.Point.{Point}
-use Rattle.glyphs.specs.Spots.{flat, spots_of, put_spot, length_flat, flat_spots, spots_take}
+use Rattle.glyphs.specs.Spots.{flat, spots_of, put_spot, length_flat, length_spots, flat_spots, spots_take}
 use Rattle.lattice.specs.Flat.{flat_append}
+
+-- an answer that counts spots, with those spots at the front of a slice, the rest of which is as before
+abbrev pub Fills : List Point → ℕ → List Float → List Float → Type 0
+Fills ps count exit entry = (count ≡ length ps) × (exit ≡ written (flat ps) entry)
 
 -- the spots that are written are at the front
 front : (ps : List Point) (l : List Float) → take (length ps) (spots_of (flat ps ++ l)) ≡ ps
@@ -35,7 +39,9 @@ written_over xs ys l h =
     ap (λ (t : List Float). xs ++ t) (ap (λ (m : ℕ). drop m (ys ++ drop (length ys) l)) e ∙ f ∙ ap (λ (m : ℕ). drop m l) (sym e))
 
 -- one more spot
-put_next : (ps : List Point) (l : List Float) (m : ℕ) (p : Point) → length ps ≡ m → m * 2 + 2 ≤ length l → put_spot (written (flat ps) l) m p ≡ written (flat (ps ++ p ∷ [])) l
+put_next :
+    (ps : List Point) (l : List Float) (m : ℕ) (p : Point) → length ps ≡ m → m * 2 + 2 ≤ length l
+    → put_spot (written (flat ps) l) m p ≡ written (flat (ps ++ p ∷ [])) l
 unfolding put_spot flat
 put_next ps l m p e h =
     let n : length (flat ps) ≡ m * 2 = length_flat ps ∙ ap (λ (k : ℕ). k * 2) e in
@@ -47,6 +53,36 @@ put_next ps l m p e h =
       flat_append ps (p ∷ []),
     )
 
+-- a slice that differs from another only in its first marks
+abbrev pub Front : ℕ → List Float → List Float → Type 0
+Front count spots entry = spots ≡ written (flat (take count (spots_of spots))) entry
+
+pub length_first : (count : ℕ) (l : List Float) → count * 2 ≤ length l → length (take count (spots_of l)) ≡ count
+length_first count l h = length-take-le count (spots_of l) (rw length_spots (omega arith))
+
+-- marks in place of the first ones
+pub front_replaced : (count : ℕ) (ps : List Point) (l part : List Float) → part ≡ flat ps → length ps ≡ count → part ++ drop (count * 2) l ≡ written (flat ps) l
+unfolding written
+front_replaced count ps l part e h = rw (e, length_flat ps, h)
+
+-- one more of the first marks
+module _
+    (count : ℕ) (spots entry : List Float) (same : length spots ≡ length entry) (front : Front count spots entry) (p : Point) (h : count * 2 + 1 < length entry)
+  where
+    abbrev first : List Point
+    first = take count (spots_of spots)
+
+    more : put_spot spots count p ≡ written (flat (first ++ p ∷ [])) entry
+    more = ap (λ (t : List Float). put_spot t count p) front ∙ put_next first entry count p (length_first count spots (omega arith)) (omega arith)
+
+    pub first_put : take (count + 1) (spots_of (put_spot spots count p)) ≡ first ++ p ∷ []
+    first_put =
+        let e : length (first ++ p ∷ []) ≡ count + 1 = simp length-append (omega (arith, length_first count spots (omega arith))) in
+        ap (λ (t : List Float). take (count + 1) (spots_of t)) more ∙ placed_front (first ++ p ∷ []) entry (count + 1) e
+
+    pub front_put : Front (count + 1) (put_spot spots count p) entry
+    front_put = more ∙ ap (λ (ps : List Point). written (flat ps) entry) (sym first_put)
+
 -- one more spot, where it is admitted
 abbrev pub placed_if : Bool → Point → List Point → List Point
 placed_if b p ps = cond b (ps ++ p ∷ []) ps
@@ -55,7 +91,9 @@ pub length_if : (b : Bool) (p : Point) (ps : List Point) (m : ℕ) → length ps
 length_if true p ps m e = simp length-append (omega arith)
 length_if false p ps m e = e
 
-pub put_if : (b : Bool) (ps : List Point) (l : List Float) (m : ℕ) (p : Point) → length ps ≡ m → m * 2 + 2 ≤ length l → cond b (put_spot (written (flat ps) l) m p) (written (flat ps) l) ≡ written (flat (placed_if b p ps)) l
+pub put_if :
+    (b : Bool) (ps : List Point) (l : List Float) (m : ℕ) (p : Point) → length ps ≡ m → m * 2 + 2 ≤ length l
+    → cond b (put_spot (written (flat ps) l) m p) (written (flat ps) l) ≡ written (flat (placed_if b p ps)) l
 put_if true ps l m p e h = put_next ps l m p e h
 put_if false ps l m p e h = refl
 

@@ -1,12 +1,11 @@
 -- discs.rs, `pack_random_piece`: darts thrown from a stream, and the scatter relaxed. Definitions only.
-use Rattle.std.specs.Prelude.{Bool, true, false, not, cond, ◌&&◌, ◌||◌, List, [], ◌∷◌, ◌++◌, ℕ, zero, suc, ◌-◌, eqb, length, Float}
+use Rattle.std.specs.Prelude.{Bool, true, false, not, cond, ◌&&◌, ◌||◌, List, [], ◌∷◌, ◌++◌, ℕ, zero, suc, ◌-◌, eqb, length, Float, Option, Some, None}
 use Rattle.laws.specs.Any.{all}
 use Rattle.float.specs.Ops.{◌*ᶠ◌, ◌≥ᶠ◌}
 use Rattle.glyphs.specs.declared.rect.Point.{Point}
 use Rattle.glyphs.specs.declared.rect.Rectangle.{Rectangle}
 use Rattle.glyphs.specs.declared.stream.Stream.{Stream}
-use Rattle.glyphs.specs.declared.bounds.Bounds.{Bounds}
-use Rattle.glyphs.specs.declared.bounds.Bounds.TheVariants.{Box, Nothing}
+use Rattle.glyphs.specs.declared.bounds.Extents.{Extents}
 use Rattle.glyphs.specs.Bounds.{ring_bounds}
 use Rattle.glyphs.specs.Rect.{clear_of_obstacles}
 use Rattle.glyphs.specs.Stream.{random_range}
@@ -61,11 +60,11 @@ module _ (piece : Piece) (n : ℕ) (attempts : ℕ) (ctx : PackCtx) (near : List
       let first = glyphs true n (record { placed = []; rng = rng }) in
       cond (ctx.mode.strict_obstacles || eqb (length near) 0) first (glyphs false (n - length first.placed) first)
 
-unfoldable pub throw_within : Bounds → Spreading → Piece → ℕ → ℕ → PackCtx → List Rectangle → Stream → Thrown
-throw_within Nothing numbers piece n attempts ctx obstacles rng = record { placed = []; rng = rng }
-throw_within (Box min-x max-x min-y max-y) numbers piece n attempts ctx obstacles rng =
+unfoldable pub throw_within : Option Extents → Spreading → Piece → ℕ → ℕ → PackCtx → List Rectangle → Stream → Thrown
+throw_within None numbers piece n attempts ctx obstacles rng = record { placed = []; rng = rng }
+throw_within (Some e) numbers piece n attempts ctx obstacles rng =
     let near = local_to piece obstacles (inset ctx) in
-    let thrown = throws piece n attempts ctx near min-x max-x min-y max-y rng in
+    let thrown = throws piece n attempts ctx near e.min_x e.max_x e.min_y e.max_y rng in
     cond ctx.mode.spread (record { placed = relax_scatter numbers thrown.placed piece near (spacing ctx) (inset ctx); rng = thrown.rng }) thrown
 
 unfoldable pub pack_random_piece : Spreading → Piece → ℕ → ℕ → PackCtx → List Rectangle → Stream → Thrown

@@ -5,3 +5,4 @@ pub mod cells;
 pub mod low;
 pub mod random;
 pub mod sequence;
+pub mod site;

@@ -1,14 +1,12 @@
 -- Reading inverts writing: the bytes of a sheet say its radius, and the key, unplaced number and spots of each zone.
 -- Rests on numbers and floats being read back.
-use Rattle.std.specs.Prelude.{ℕ, ◌+◌, ◌*◌, ◌/◌, ◌<◌, ◌≡◌, T, Float}
+use Rattle.std.specs.Prelude.{ℕ, ◌+◌, ◌*◌, ◌/◌, ◌≡◌, Float}
 use Rattle.std.proofs.Math.Path.{refl}
 use Rattle.std.proofs.Common.{◌∙◌, length-append}
 use mathlib.Core.List.{List, [], ◌∷◌, ◌++◌, append_assoc, flat_map}
 use native.Mathlib.Omega.{arith}
 use Rattle.std.proofs.Math.ListN.{length, drop}
 use Rattle.std.proofs.Math.Seq.{take-append_seam}
-use Rattle.std.specs.Float.{binary64}
-use Rattle.std.specs.Float.Ieee.{fits}
 use Rattle.format.specs.Rows.{each}
 use Rattle.format.specs.Numbers.{u8, u16, bytes, float_at, float_bytes}
 use Rattle.format.specs.NumberLaws.{length_bytes}

@@ -1,6 +1,5 @@
 // Roots and radical inverses.
 use crate::lines::{float, number};
-use marks::leaves::Inverse;
 use std::io;
 
 fn root<R: Print>(rt: &R, asked: &str, x: f64) -> io::Result<()> {
@@ -9,8 +8,8 @@ fn root<R: Print>(rt: &R, asked: &str, x: f64) -> io::Result<()> {
 
 fn inverse<R: Print>(rt: &R, asked: &str, index: u64, base: u64) -> io::Result<()> {
     match marks::leaves::radical_inverse(index, base) {
-        Inverse::Value(v) => float(rt, asked, v),
-        Inverse::BadBase => number(rt, asked, 17),
+        Ok(value) => float(rt, asked, value),
+        Err(refusal) => number(rt, asked, u8::from(refusal) as u64),
     }
 }
 

@@ -1,6 +1,5 @@
 // Quotas.
 use crate::lines::number;
-use marks::leaves::Sharing;
 use std::io;
 
 // The quotas of a count over three weights, as one decimal number of three places, or the refusal.
@@ -8,14 +7,13 @@ fn three<R: Print>(rt: &R, asked: &str, count: u64, a: f64, b: f64, c: f64) -> i
     let weights = [a, b, c];
     let mut quotas = [7u64; 4];
     match marks::leaves::quotas(count, &weights, &mut quotas) {
-        Sharing::Written => {
-            number(rt, asked, quotas[0])?;
-            number(rt, asked, quotas[1])?;
-            number(rt, asked, quotas[2])?;
-            number(rt, asked, quotas[3])
+        Ok(()) => {
+            for quota in quotas {
+                number(rt, asked, quota)?;
+            }
+            Ok(())
         }
-        Sharing::BadShares => number(rt, asked, 18),
-        Sharing::NoRoom => number(rt, asked, 19),
+        Err(refusal) => number(rt, asked, u8::from(refusal) as u64),
     }
 }
 

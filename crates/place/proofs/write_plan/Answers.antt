@@ -5,11 +5,7 @@ use Rattle.marks.specs.CallLaws.{small}
 use Rattle.place.proofs.write_plan.Goals as goal
 
 pub slice_bounds-sheet-end : goal.slice_bounds-sheet-end
-slice_bounds-sheet-end g c =
-    let m = rw c.in-Sheet.is at (small _ _ _ _ _ c.plan.ensures.answer) in
-    omega (arith, m.0)
+slice_bounds-sheet-end g c = omega (arith, (small _ _ _ _ _ c.in-Ok.ensures.answer).0)
 
 pub slice_bounds-write_all-end : goal.slice_bounds-write_all-end
-slice_bounds-write_all-end g c =
-    let m = rw c.in-Sheet.is at (small _ _ _ _ _ c.plan.ensures.answer) in
-    sym (length-take-le _ _ (omega (arith, m.0)))
+slice_bounds-write_all-end g c = sym (length-take-le _ _ (omega (arith, (small _ _ _ _ _ c.in-Ok.ensures.answer).0)))

@@ -1,8 +1,7 @@
--- `probe_count_clear` is safe and ends. The invariant: no more are counted than were looked at, and the margin is the one made.
--- Rests on the contracts of what it calls.
-use borrow.Author.Rules.{rules}
-use Rattle.regions.specs.Margin.{margin_own}
+-- `probe_count_clear` is safe and ends: the library's filter and count serve its range.
+-- Rests on the library's law of what serves.
+use Rattle.std.proofs.iter.Serving.{serving}
 use Rattle.probes.proofs.probe_count_clear.Goals as goal
 
-pub loop-k-init : goal.loop-k-init
-loop-k-init c = (search rules, search rules, search rules, margin_own c.of-margin.result _ c.of-margin.ensures)
+pub count-requires-clause-can : goal.count-requires-clause-can
+count-requires-clause-can c = grind serving

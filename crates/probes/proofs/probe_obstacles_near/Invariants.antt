@@ -1,12 +1,7 @@
--- `probe_obstacles_near` stays within what it is lent, and its count fits.
--- Rests on what the layers' functions ensure.
-use mathlib.Core.Path.{◌≡◌}
-use Prim.Native.Nat.{◌≤◌, ◌-◌}
-use lib.ListN.{length}
+-- `probe_obstacles_near` counts no more than it has looked at.
+-- Rests on nothing.
+use Prim.Native.Nat.{◌≤◌}
 use Rattle.probes.proofs.probe_obstacles_near.Given as goal
 
 abbrev pub invariant-loop-k : goal.invariant-loop-k
-invariant-loop-k l = (length l.near ≡ length l.initial.near) × (l.many ≤ l.k) × (l.k ≤ length l.near)
-
-abbrev pub decreases-loop-k : goal.decreases-loop-k
-decreases-loop-k l = length l.initial.near - l.k
+invariant-loop-k l = l.many ≤ l.k

@@ -1,16 +1,13 @@
 -- `put_spots` writes spots. Invariant: those left are still to be put.
 -- Rests on what `put_float` ensures and one turn of the spots.
 use mathlib.Core.Path.{◌≡◌}
-use Prim.Native.Nat.{◌+◌, ◌-◌, ◌*◌, ◌≤◌}
+use mathlib.Core.List.{flat_map}
+use Prim.Native.Nat.{◌+◌, ◌*◌}
 use lib.ListN.{length, drop}
 use lib.Seq.{sets}
-use mathlib.Core.List.{flat_map}
 use Rattle.format.specs.Numbers.{float_bytes}
 use Rattle.sheet.proofs.put_spots.Given as goal
 
-abbrev pub invariant-loop-i : goal.invariant-loop-i
-invariant-loop-i l =
-    (l.i ≤ length l.spots) × (l.at ≡ l.start + 8 * l.i) × (length l.sheet ≡ length l.initial.sheet) × (sets l.initial.sheet l.start (flat_map float_bytes l.spots) ≡ sets l.sheet l.at (flat_map float_bytes (drop l.i l.spots)))
-
-abbrev pub decreases-loop-i : goal.decreases-loop-i
-decreases-loop-i l = length l.spots - l.i
+abbrev pub invariant-loop-spot : goal.invariant-loop-spot
+invariant-loop-spot l =
+    (l.at ≡ l.start + 8 * l.spot-index) × (length l.sheet ≡ length l.initial.sheet) × (sets l.initial.sheet l.start (flat_map float_bytes l.spots) ≡ sets l.sheet l.at (flat_map float_bytes (drop l.spot-index l.spots)))

@@ -5,12 +5,6 @@ use Rattle.deepest.specs.Cells.{cell_at}
 use Rattle.deepest.specs.Heap.{first_left, first_right}
 use Rattle.deepest.proofs.queue.first_child.Goals as goal
 
-pub get-a-requires : goal.get-a-requires
-get-a-requires c = (omega arith, c.requires.2 _ c.if-s-n.true (λ e. omega arith))
-
-pub get-b-requires : goal.get-b-requires
-get-b-requires c = (omega arith, c.requires.2 _ (omega arith) (λ e. omega arith))
-
 pub returns-then-before : goal.returns-then-before
 returns-then-before c =
     let a = c.args in

@@ -1,9 +1,9 @@
 -- `half` meets its contract: an entry of the table, and a NaN past its end.
--- Rests on the value of 0.0 / 0.0.
-use lib.ListN.{get_or-eq_default}
-use lib.Ieee.{nan}
-use Rattle.regions.specs.Margin.{none}
+-- Rests on what a list reads past its end.
+use Rattle.std.proofs.Common.{le_refl}
+use Rattle.std.specs.Float.Ieee.{nan, of_bits}
 use Rattle.deepest.proofs.queue.half.Goals as goal
 
-pub returns : goal.returns
-returns c = rw (none, get_or-eq_default _ nan c.if-i-halves.false)
+pub returns-in-None : goal.returns-in-None
+unfolding of_bits
+returns-in-None c = c.in-None.ensures.lookup.4 (le_refl c.args.k) nan

@@ -7,22 +7,10 @@ use Rattle.deepest.specs.Queue.{Queue, Popped}
 use Rattle.deepest.specs.Sift.{sinking_start, sinking_step, sinking_done, no_child_first, popped_last}
 use Rattle.deepest.proofs.queue.pop.Goals as goal
 
-pub get-first-requires : goal.get-first-requires
-get-first-requires c =
-    let q = c.requires.0 in
-    let r = q.room in
-    (omega arith, q.sound 0 c.requires.1)
-
 pub returns-then-n-lt1 : goal.returns-then-n-lt1
 returns-then-n-lt1 c =
     let e : c.args.m ≡ 1 = omega arith in
     rw e (popped_last _ _ _ c.get-first.ensures)
-
-pub get-c-requires : goal.get-c-requires
-get-c-requires c =
-    let q = c.requires.0 in
-    let r = q.room in
-    (omega arith, q.sound _ (omega arith))
 
 pub loop-i-init : goal.loop-i-init
 loop-i-init c =
@@ -35,32 +23,6 @@ loop-i-init c =
       sinking_start _ _ _ _ _ (subst (λ (k : ℕ). Queue a.halves.now a.cells.now k) e q) (omega arith) c.get-first.ensures c.get-c.ensures,
     )
 
-pub first_child-k-requires : goal.first_child-k-requires
-first_child-k-requires c =
-    let u = c.loop-i.invariant.3 in
-    let b = u.long in
-    let d = u.room in
-    (c.loop-i-test.true, omega arith, u.sound)
-
-pub get-e-requires : goal.get-e-requires
-get-e-requires c =
-    let u = c.loop-i.invariant.3 in
-    let b = u.long in
-    let d = u.room in
-    let f = c.first_child-k.ensures in
-    let g = f.above in
-    let h = f.within in
-    let i = f.child in
-    (omega arith, u.sound _ h (λ e. omega arith))
-
-pub put-requires : goal.put-requires
-put-requires c =
-    let u = c.loop-i.invariant.3 in
-    let a = u.place in
-    let b = u.long in
-    let d = u.room in
-    (omega arith, c.loop-i.invariant.2)
-
 pub returns-then-not-before : goal.returns-then-not-before
 returns-then-not-before c =
     let l = c.loop-i in
@@ -70,26 +32,6 @@ returns-then-not-before c =
     rw c.put.ensures
     (subst (λ (k : ℕ). Popped a.halves.now a.cells.now k c.get-first.result (put_cell l.cells l.i c.get-c.result)) (sym l.invariant.0)
     (sinking_done _ _ _ _ _ _ _ l.invariant.3 l.invariant.2 (no_child_first _ _ _ _ _ _ c.first_child-k.ensures h) l.invariant.1))
-
-pub put-requires-in-loop-i : goal.put-requires-in-loop-i
-put-requires-in-loop-i c =
-    let u = c.loop-i.invariant.3 in
-    let a = u.place in
-    let b = u.long in
-    let d = u.room in
-    let f = c.first_child-k.ensures in
-    let g = f.above in
-    let h = f.within in
-    let i = f.child in
-    (omega arith, subst Tagged (sym c.get-e.ensures) (u.sound _ h (λ e. omega arith)).tagged)
-
-pub loop-i-smaller : goal.loop-i-smaller
-loop-i-smaller c =
-    let f = c.first_child-k.ensures in
-    let g = f.above in
-    let h = f.within in
-    let i = f.child in
-    omega arith
 
 pub loop-i-preserved : goal.loop-i-preserved
 loop-i-preserved c =
@@ -102,14 +44,6 @@ loop-i-preserved c =
       l.invariant.2,
       rw (c.put-in-loop-i.ensures, c.get-e.ensures) (sinking_step _ _ _ _ _ _ _ l.invariant.3 _ c.first_child-k.ensures h),
     )
-
-pub put-requires-2 : goal.put-requires-2
-put-requires-2 c =
-    let u = c.loop-i.invariant.3 in
-    let a = u.place in
-    let b = u.long in
-    let d = u.room in
-    (omega arith, c.loop-i.invariant.2)
 
 pub returns : goal.returns
 returns c =

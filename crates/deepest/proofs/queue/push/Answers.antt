@@ -1,30 +1,14 @@
 -- `push` meets its contract. The invariant: the cell is on its way up.
 -- Rests on the laws of that way's start, step and end.
-use Rattle.std.proofs.Common.{◌≡◌, true, false, sym, subst, arith}
+use Rattle.std.proofs.Common.{◌≡◌, true, false, arith}
 use Rattle.deepest.specs.Order.{leaves}
-use Rattle.deepest.specs.Cells.{Tagged, cell_at}
+use Rattle.deepest.specs.Cells.{cell_at}
 use Rattle.deepest.specs.Heap.{parent}
 use Rattle.deepest.specs.Sift.{rising_start, rising_step, rising_done}
 use Rattle.deepest.proofs.queue.push.Goals as goal
 
 pub loop-i-init : goal.loop-i-init
 loop-i-init c = rising_start _ _ _ _ c.requires.0 c.requires.1
-
-pub get-e-requires : goal.get-e-requires
-get-e-requires c =
-    let u = c.loop-i.invariant in
-    let a = u.place in
-    let b = u.long in
-    let d = u.room in
-    (omega arith, u.sound _ (omega arith) (λ e. omega arith))
-
-pub put-requires : goal.put-requires
-put-requires c =
-    let u = c.loop-i.invariant in
-    let a = u.place in
-    let b = u.long in
-    let d = u.room in
-    (omega arith, c.requires.2)
 
 pub returns-then-not-before : goal.returns-then-not-before
 returns-then-not-before c =
@@ -34,14 +18,6 @@ returns-then-not-before c =
     let h : leaves a.halves.now a.c (cell_at l.cells (parent l.i)) ≡ false = cc in
     rw c.put.ensures (rising_done _ _ _ _ _ _ l.invariant c.requires.2 (λ z. h))
 
-pub put-requires-in-loop-i : goal.put-requires-in-loop-i
-put-requires-in-loop-i c =
-    let u = c.loop-i.invariant in
-    let a = u.place in
-    let b = u.long in
-    let d = u.room in
-    (omega arith, subst Tagged (sym c.get-e.ensures) (u.sound _ (omega arith) (λ e. omega arith)).tagged)
-
 pub loop-i-preserved : goal.loop-i-preserved
 loop-i-preserved c =
     let l = c.loop-i in
@@ -49,13 +25,6 @@ loop-i-preserved c =
     let f = c.if-not-before.false in
     let h : leaves a.halves.now a.c (cell_at l.cells (parent l.i)) ≡ true = cc in
     rw (c.put-in-loop-i.ensures, c.get-e.ensures) (rising_step _ _ _ _ _ _ l.invariant c.loop-i-test.true h)
-
-pub put-requires-2 : goal.put-requires-2
-put-requires-2 c =
-    let u = c.loop-i.invariant in
-    let b = u.long in
-    let d = u.room in
-    (omega arith, c.requires.2)
 
 pub returns : goal.returns
 returns c =

@@ -1,90 +1,79 @@
--- `explore` meets its contract. The invariant: what is left of the definition's search is that of the cells in the slice. The measure is what they weigh.
+-- `explore` meets its contract. The invariant: what is left of the definition's search is that of the cells that wait. The measure is what they weigh.
 -- Rests on the laws of the search's state.
-use Rattle.std.proofs.Common.{◌≡◌, ℕ, ◌+◌, ◌-◌, ◌<◌, true, false, sym, ◌∙◌, arith, rules}
+use Rattle.std.proofs.Common.{◌<◌, ◌+◌, ◌/◌, length, ◌≡◌, ◌-◌, true, false, refl, sym, ◌∙◌, arith}
 use Rattle.deepest.specs.Deepest.{better_of, splits_at}
 use Rattle.deepest.specs.Turns.{nodes_pos, nodes_split}
 use Rattle.deepest.specs.Search.{search_start, search_keep, search_split, search_full, search_room, search_done, lighter}
 use Rattle.deepest.proofs.search.explore.Goals as goal
 
-more : (m : ℕ) → 0 < m → m ≡ m - 1 + 1
-more m h = omega arith
+pub loop-cell-init : goal.loop-cell-init
+loop-cell-init c =
+    let w = c.args.waiting.now in
+    (refl, rw c.requires.0 (search_start _ _ _ _ _ _ _ w.heap c.requires.1))
 
-pub loop-m-init : goal.loop-m-init
-loop-m-init c = (search rules, search_start _ _ _ _ _ _ _ c.requires.2 c.requires.3)
-
-pub pop-cell-requires : goal.pop-cell-requires
-pop-cell-requires c = (c.loop-m.invariant.1.queue, c.loop-m-test.true)
-
-pub overflow_add-m : goal.overflow_add-m
-overflow_add-m c = omega (arith, c.loop-m.invariant.1.queue.room)
-
-pub shape_of-cells-then-room-m : goal.shape_of-cells-then-room-m
-shape_of-cells-then-room-m c = c.pop-cell.ensures.long ∙ c.loop-m.invariant.1.long
-
-pub returns-then-room-m : goal.returns-then-room-m
-returns-then-room-m c =
-    let l = c.loop-m in
+pub returns-then-room-lt4 : goal.returns-then-room-lt4
+returns-then-room-lt4 c =
     let a = c.args in
-    let some : l.m ≡ l.m - 1 + 1 = omega arith in
-    let e : splits_at a.halves.now a.precision c.pop-cell.result (better_of l.best c.pop-cell.result) ≡ true = cc c.splits.ensures.0 in
-    record { answer = λ q w. sym (search_full _ _ _ _ _ _ _ _ _ _ _ l.invariant.1 _ _ _ some c.pop-cell.ensures e (omega (arith, l.invariant.0)) q w) }
+    let i = c.loop-cell.invariant in
+    let out = c.in-Some.ensures in
+    let p = rw i.0 at out.popped in
+    let same = out.halves ∙ i.0 in
+    let e : splits_at a.waiting.now.halves.now a.precision c.in-Some.cell (better_of c.loop-cell.best c.in-Some.cell) ≡ true = cc (c.splits.ensures.0) in
+    let over : length a.waiting.now.cells.now / 5 < c.pop.new.self.len + 4 = omega (arith, p.long, i.1.long, c.room.ensures.places, c.if-room-lt4.true) in
+    record { answer = λ q w. sym (search_full _ _ _ _ _ _ _ _ _ _ _ i.1 _ _ _ out.len p e over q w) }
 
 pub push_four-requires : goal.push_four-requires
 push_four-requires c =
-    let l = c.loop-m in
-    let s = l.invariant.1 in
-    let p = c.pop-cell.ensures in
-    let some : l.m ≡ l.m - 1 + 1 = omega arith in
-    let b = p.long ∙ s.long in
-    let d = l.invariant.0 in
-    let k = c.splits.ensures.1 c.if-splits.true in
-    (c.requires.0, c.requires.1, p.queue (l.m - 1) some, omega arith, k, search_room _ _ _ _ _ _ _ _ _ _ _ s _ _ _ some p)
-
-pub overflow_add-m-then-splits : goal.overflow_add-m-then-splits
-overflow_add-m-then-splits c = omega (arith, c.push_four.ensures.queue.room)
-
-pub overflow_add-entry : goal.overflow_add-entry
-overflow_add-entry c = omega (arith, search_room _ _ _ _ _ _ _ _ _ _ _ c.loop-m.invariant.1 _ _ _ (more _ c.loop-m-test.true) c.pop-cell.ensures)
-
-pub loop-m-smaller-then-splits : goal.loop-m-smaller-then-splits
-loop-m-smaller-then-splits c =
-    let l = c.loop-m in
-    let some : l.m ≡ l.m - 1 + 1 = omega arith in
-    let w = lighter _ _ _ _ _ _ _ _ _ _ _ l.invariant.1 _ _ _ some c.pop-cell.ensures in
-    let k = c.splits.ensures.1 c.if-splits.true in
-    omega (arith, c.push_four.ensures.weight, nodes_split c.pop-cell.result.halvings k)
-
-pub loop-m-preserved-then-splits : goal.loop-m-preserved-then-splits
-loop-m-preserved-then-splits c =
-    let l = c.loop-m in
-    let a = c.args in
-    let some : l.m ≡ l.m - 1 + 1 = omega arith in
-    let e : splits_at a.halves.now a.precision c.pop-cell.result (better_of l.best c.pop-cell.result) ≡ true = cc c.splits.ensures.0 in
-    let k = c.splits.ensures.1 c.if-splits.true in
-    let d = l.invariant.0 in (
-      d,
-      rw c.better-best.ensures (search_split _ _ _ _ _ _ _ _ _ _ _ l.invariant.1 _ _ _ some c.pop-cell.ensures _ e k (omega arith) c.push_four.ensures),
+    let i = c.loop-cell.invariant in
+    let out = c.in-Some.ensures in
+    let p = rw i.0 at out.popped in
+    let heap = c.pop.new.self.heap in (
+      omega (arith, heap.room, c.room.ensures.places, c.if-room-lt4.false),
+      c.splits.ensures.1 c.if-splits.true,
+      rw out.entered (search_room _ _ _ _ _ _ _ _ _ _ _ i.1 _ _ _ out.len p),
     )
 
-pub loop-m-smaller : goal.loop-m-smaller
-loop-m-smaller c =
-    let l = c.loop-m in
-    let some : l.m ≡ l.m - 1 + 1 = omega arith in
-    let w = lighter _ _ _ _ _ _ _ _ _ _ _ l.invariant.1 _ _ _ some c.pop-cell.ensures in
-    omega (arith, nodes_pos (21 - c.pop-cell.result.halvings))
+pub loop-cell-smaller-then-splits : goal.loop-cell-smaller-then-splits
+loop-cell-smaller-then-splits c =
+    let i = c.loop-cell.invariant in
+    let out = c.in-Some.ensures in
+    let w = lighter _ _ _ _ _ _ _ _ _ _ _ i.1 _ _ _ out.len (rw i.0 at out.popped) in
+    let k = c.splits.ensures.1 c.if-splits.true in
+    rw c.push_four.ensures.len (omega (arith, c.push_four.ensures.quartered.weight, w, nodes_split c.in-Some.cell.halvings k))
 
-pub loop-m-preserved : goal.loop-m-preserved
-loop-m-preserved c =
-    let l = c.loop-m in
+pub loop-cell-preserved-then-splits : goal.loop-cell-preserved-then-splits
+loop-cell-preserved-then-splits c =
     let a = c.args in
-    let some : l.m ≡ l.m - 1 + 1 = omega arith in
-    let e : splits_at a.halves.now a.precision c.pop-cell.result (better_of l.best c.pop-cell.result) ≡ false = cc c.splits.ensures.0 in
-    (l.invariant.0, rw c.better-best.ensures (search_keep _ _ _ _ _ _ _ _ _ _ _ l.invariant.1 _ _ _ some c.pop-cell.ensures e))
+    let i = c.loop-cell.invariant in
+    let out = c.in-Some.ensures in
+    let p = rw i.0 at out.popped in
+    let same = out.halves ∙ i.0 in
+    let e : splits_at a.waiting.now.halves.now a.precision c.in-Some.cell (better_of c.loop-cell.best c.in-Some.cell) ≡ true = cc (c.splits.ensures.0) in
+    let k = c.splits.ensures.1 c.if-splits.true in
+    let four = c.push_four.ensures in
+    let q = rw (same, out.entered) at four.quartered in (
+      four.halves ∙ same,
+      rw (four.len, four.entered, out.entered, c.better-best.ensures)
+          (search_split _ _ _ _ _ _ _ _ _ _ _ i.1 _ _ _ out.len p _ e k (omega (arith, p.long, i.1.long, c.room.ensures.places, c.if-room-lt4.false)) q),
+    )
 
-pub shape_of-cells : goal.shape_of-cells
-shape_of-cells c = c.loop-m.invariant.1.long
+pub loop-cell-smaller : goal.loop-cell-smaller
+loop-cell-smaller c =
+    let i = c.loop-cell.invariant in
+    let out = c.in-Some.ensures in
+    let w = lighter _ _ _ _ _ _ _ _ _ _ _ i.1 _ _ _ out.len (rw i.0 at out.popped) in
+    omega (arith, w, nodes_pos (21 - c.in-Some.cell.halvings))
+
+pub loop-cell-preserved : goal.loop-cell-preserved
+loop-cell-preserved c =
+    let a = c.args in
+    let i = c.loop-cell.invariant in
+    let out = c.in-Some.ensures in
+    let same = out.halves ∙ i.0 in
+    let e : splits_at a.waiting.now.halves.now a.precision c.in-Some.cell (better_of c.loop-cell.best c.in-Some.cell) ≡ false = cc (c.splits.ensures.0) in
+    (same, rw (out.entered, c.better-best.ensures) (search_keep _ _ _ _ _ _ _ _ _ _ _ i.1 _ _ _ out.len (rw i.0 at out.popped) e))
 
 pub returns : goal.returns
 returns c =
-    let l = c.loop-m in
-    record { answer = λ q w. c.answer.ensures ∙ sym (search_done _ _ _ _ _ _ _ _ _ _ _ l.invariant.1 (omega arith) q w) }
+    let i = c.loop-cell.invariant in
+    record { answer = λ q w. c.answer.ensures ∙ sym (search_done _ _ _ _ _ _ _ _ _ _ _ i.1 c.in_default.ensures.0 q w) }

@@ -1,20 +1,20 @@
 -- `search` meets its contract: the table, the first cells, and the turns.
 -- Rests on the contracts of the three.
-use Rattle.std.proofs.Common.{sym, arith}
+use Rattle.std.proofs.Common.{sym, ◌∙◌}
 use Rattle.deepest.specs.Deepest.{centre_of}
-use Rattle.deepest.specs.Plant.{seeds_over, seeds_some, search_over, search_some, light}
+use Rattle.deepest.specs.Plant.{search_over, search_some}
 use Rattle.deepest.proofs.search.search.Goals as goal
 
 pub returns-in_default : goal.returns-in_default
-returns-in_default c = sym (search_over _ _ _ _ _ _ c.halves_of-halves.ensures (seeds_over _ _ _ _ c.seed-seeded.ensures c.in_default.is))
-
-pub explore-requires : goal.explore-requires
-explore-requires c =
-    let p = seeds_some _ _ _ _ _ c.seed-seeded.ensures c.in-Waiting.is in
-    (c.requires.0, c.requires.1, p.match.queue, light _ _ _ _ (omega arith) p)
+returns-in_default c =
+    let w = c.new-waiting.ensures in
+    sym (search_over _ _ _ _ _ _ c.halves_of-halves.ensures (rw (w.cells, w.halves) at c.in_default.ensures))
 
 pub returns : goal.returns
 unfolding centre_of
 returns c =
-    let p = seeds_some _ _ _ _ _ c.seed-seeded.ensures c.in-Waiting.is in
-    search_some _ _ _ _ _ _ c.halves_of-halves.ensures _ _ _ _ (omega arith) p (cc) c.explore.ensures
+    let w = c.new-waiting.ensures in
+    let s = c.in-Ok.ensures in
+    let p = rw (w.cells, w.halves) at s.planted in
+    let x = rw (s.halves ∙ w.halves) at c.explore.ensures in
+    search_some _ _ _ _ _ _ c.halves_of-halves.ensures _ _ _ _ (rw (s.long, w.cells)) p (rw c.signed_clearance-d.ensures) x

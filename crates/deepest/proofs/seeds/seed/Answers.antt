@@ -1,46 +1,44 @@
--- `seed` meets its contract. The invariant: the cells in the slice are those of the grid up to the corner.
+-- `seed` meets its contract. The invariant: the cells that wait are those of the grid up to the corner. The measure is the room.
 -- Rests on the laws of the grid.
-use Rattle.std.proofs.Common.{refl, ◌∙◌, arith, rules}
-use Rattle.deepest.specs.Deepest.{first_corner}
+use Rattle.std.proofs.Common.{◌<◌, ◌/◌, length, ◌∙◌, refl, arith}
 use Rattle.deepest.specs.Plant.{plant_start, plant_over, plant_step, plant_end}
+use Rattle.deepest.specs.Turns.{entered}
 use Rattle.deepest.proofs.seeds.seed.Goals as goal
 
-pub loop-corner-init : goal.loop-corner-init
-unfolding first_corner
-loop-corner-init c = (search rules, refl, c.half-h0.ensures, plant_start _ _ _ _ _ _)
+pub loop-next-init : goal.loop-next-init
+loop-next-init c = (refl, refl, rw (c.requires.0, c.requires.1), rw (c.requires.0, c.first_corner-next.ensures) (plant_start _ _ _ _ _ _))
 
-pub shape_of-cells-then-room-m : goal.shape_of-cells-then-room-m
-shape_of-cells-then-room-m c = c.loop-corner.invariant.1
+pub returns-then-room-eq0 : goal.returns-then-room-eq0
+returns-then-room-eq0 c =
+    let l = c.loop-next in
+    let i = l.invariant in
+    plant_over _ _ _ _ _ _ _ _ (rw c.in-Some.is at i.3) (omega (arith, i.0, c.room.ensures.places, c.if-room-eq0.true))
 
-pub returns-then-room-m : goal.returns-then-room-m
-returns-then-room-m c =
-    let l = c.loop-corner in
-    let a = l.invariant.0 in
-    plant_over _ _ _ _ _ _ _ _ l.invariant.3 (omega arith) c.loop-corner-test.true
+pub push-requires-clause-early : goal.push-requires-clause-early
+push-requires-clause-early c = omega (arith, c.loop-next.invariant.2, c.room.ensures.few)
 
-pub enter_cell-requires : goal.enter_cell-requires
-enter_cell-requires c =
-    let l = c.loop-corner in
-    let a = l.invariant.0 in
-    let b = l.invariant.1 in
-    (c.requires.0, c.requires.1, l.invariant.3.match.queue, omega arith, omega arith, omega arith)
+pub loop-next-smaller : goal.loop-next-smaller
+loop-next-smaller c = omega (arith, c.loop-next.invariant.0, c.room.ensures.places, c.push.ensures.len)
 
-pub loop-corner-preserved : goal.loop-corner-preserved
-loop-corner-preserved c =
-    let l = c.loop-corner in
-    let a = l.invariant.0 in (
-      a,
-      c.enter_cell.ensures.long ∙ l.invariant.1,
-      l.invariant.2,
-      rw c.next_corner-corner.ensures
-          (plant_step _ _ _ _ _ _ _ _ l.invariant.3 _ _ _ (omega arith) c.loop-corner-test.true (rw l.invariant.2) (rw l.invariant.2) c.enter_cell.ensures),
+pub loop-next-preserved : goal.loop-next-preserved
+loop-next-preserved c =
+    let i = c.loop-next.invariant in
+    let w = c.push.ensures in
+    let e = rw (i.1, i.2) at (entered _ _ _ _ _ _ _ _ _ _ c.signed_clearance-d.ensures w.pushed) in
+    let more : c.loop-next.waiting.len < length c.args.waiting.now.cells.now / 5 = omega (arith, i.0, c.room.ensures.places, c.if-room-eq0.false) in (
+      e.long ∙ i.0,
+      w.halves ∙ i.1,
+      rw (w.len, w.entered, i.2),
+      rw (c.next_corner-next.ensures, w.len)
+          (plant_step _ _ _ _ _ _ _ _ (rw c.in-Some.is at i.3) _ _ _ more (rw c.half-h0.ensures) (rw c.half-h0.ensures) e),
     )
-
-pub shape_of-cells : goal.shape_of-cells
-shape_of-cells c = c.loop-corner.invariant.1
 
 pub returns : goal.returns
 returns c =
-    let l = c.loop-corner in
-    let b = l.invariant.1 in
-    plant_end _ _ _ _ _ _ _ _ l.invariant.3 c.loop-corner-test.false (omega arith)
+    let i = c.loop-next.invariant in
+    record {
+      planted = plant_end _ _ _ _ _ _ _ (rw c.in_default.is at i.3);
+      halves = i.1;
+      long = i.0;
+      entered = i.2;
+    }

@@ -1,17 +1,17 @@
--- `seed` meets its contract. The invariant: the cells in the slice are those of the grid up to the corner.
+-- `seed` meets its contract. The invariant: the cells that wait are those of the grid up to the corner. The measure is the room.
 -- Rests on the laws of the grid.
 use Rattle.std.proofs.Common.{◌≡◌, ◌-◌, ◌/◌, length}
-use Rattle.regions.specs.Ring.{piece_of}
-use Rattle.deepest.specs.Order.{half_at}
+use Rattle.regions.specs.Pieces.{rings_of}
 use Rattle.deepest.specs.Plant.{Planting}
 use Rattle.deepest.proofs.seeds.seed.Given as goal
 
-abbrev pub invariant-loop-corner : goal.invariant-loop-corner
-invariant-loop-corner l =
-    (l.room ≡ length l.initial.cells / 5)
-    × (length l.cells ≡ length l.initial.cells)
-    × (l.h0 ≡ half_at l.halves 0)
-    × Planting (piece_of l.sizes l.coords) l.halves l.e l.side (length l.initial.cells / 5) l.cells l.m l.corner
+abbrev pub invariant-loop-next : goal.invariant-loop-next
+invariant-loop-next l =
+    let w = l.initial.waiting in
+    (length l.waiting.cells.now ≡ length w.cells.now)
+    × (l.waiting.halves.now ≡ w.halves.now)
+    × (l.waiting.entered ≡ l.waiting.len)
+    × Planting (rings_of l.piece) w.halves.now l.tiling.bounds l.tiling.side (length w.cells.now / 5) l.waiting.cells.now l.waiting.len l.next
 
-abbrev pub decreases-loop-corner : goal.decreases-loop-corner
-decreases-loop-corner l = l.room - l.m
+abbrev pub decreases-loop-next : goal.decreases-loop-next
+decreases-loop-next l = length l.initial.waiting.cells.now / 5 - l.waiting.len

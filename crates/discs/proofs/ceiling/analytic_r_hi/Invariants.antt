@@ -1,16 +1,13 @@
 -- `analytic_r_hi` meets its contract. The invariant: the answer is that of the zones left, from `r_hi` on.
 -- Rests on a turn over zones.
-use Rattle.std.proofs.Common.{◌≡◌, ℕ, ◌-◌, ◌≤◌, List}
+use Rattle.std.proofs.Common.{◌≡◌, ℕ, List, drop}
 use mathlib.Core.List.{foldl}
 use Rattle.float.specs.Ops.{∞}
 use Rattle.discs.specs.Floor.{handed_from, handed_work, work_in, lowered_by, EachRow, Stands}
 use Rattle.discs.proofs.ceiling.analytic_r_hi.Given as goal
 
-abbrev pub invariant-loop-z : goal.invariant-loop-z
-invariant-loop-z l =
-    (l.z ≤ l.n)
-    × EachRow l.rows l.rings l.sizes (Stands l.rings l.sizes l.coords l.deepest) (l.n - l.z) l.z l.at
-    × ((s quotas : List ℕ) → foldl (lowered_by l.gap) ∞ (work_in s l.n l.rows l.rings l.sizes l.coords quotas l.deepest) ≡ foldl (lowered_by l.gap) l.r_hi (handed_work (handed_from s l.rings l.sizes l.coords quotas l.deepest l.rows (l.n - l.z) l.z l.at)))
-
-abbrev pub decreases-loop-z : goal.decreases-loop-z
-decreases-loop-z l = l.n - l.z
+abbrev pub invariant-loop-row : goal.invariant-loop-row
+invariant-loop-row l =
+    EachRow l.rings l.sizes (Stands l.rings l.sizes l.coords l.deepest) (drop l.row-index l.rows) l.at
+    × ((s quotas : List ℕ) → foldl (lowered_by l.gap) ∞ (work_in s l.rows l.rings l.sizes l.coords quotas l.deepest)
+    ≡ foldl (lowered_by l.gap) l.r_hi (handed_work (handed_from s l.rings l.sizes l.coords quotas l.deepest (drop l.row-index l.rows) l.at)))

@@ -1,26 +1,21 @@
 -- `deepest_in` meets its contract. The invariant: the answer is that of the points left, from `best` on.
--- Rests on a turn over deepest points.
-use Rattle.std.proofs.Common.{sym, refl, ◌∙◌, arith, rules}
+-- Rests on the kit's laws of lists.
+use Rattle.std.proofs.Common.{◌≡◌, ℕ, ◌+◌, ◌<◌, List, length, get_or, drop, sym, refl, ◌∙◌, add-one, drop-cons, drop_of_length-le}
+use mathlib.Core.List.{foldl}
+use Rattle.deepest.specs.Deepest.{deeper_of}
+use Rattle.deepest.specs.declared.search.Deepest.{Deepest}
 use Rattle.discs.specs.Floor.{deepest_in}
-use Rattle.discs.proofs.Turns.{deepests_turn}
-use Rattle.discs.proofs.Zones.{deepests_end}
 use Rattle.discs.proofs.ceiling.deepest_in.Goals as goal
 
-pub loop-k-init : goal.loop-k-init
+next_point : (best next d : Deepest) (l : List Deepest) (k : ℕ) → k < length l → next ≡ deeper_of best (get_or l k d) → foldl deeper_of best (drop k l) ≡ foldl deeper_of next (drop (k + 1) l)
+next_point best next d l k h e = rw (e, add-one k, drop-cons l k d h)
+
+pub loop-found-init : goal.loop-found-init
 unfolding deepest_in
-loop-k-init c = (search rules, search rules, refl)
+loop-found-init c = refl
 
-pub deepest_at-requires : goal.deepest_at-requires
-deepest_at-requires c = omega arith
-
-pub loop-k-preserved : goal.loop-k-preserved
-loop-k-preserved c =
-    let l = c.loop-k in
-    let d = c.args.deepest.now in
-    (search rules, search rules, l.invariant.2 ∙ rw (deepests_turn l.k d (omega arith), c.deeper-best.ensures, c.deepest_at.ensures))
+pub loop-found-preserved : goal.loop-found-preserved
+loop-found-preserved c = c.loop-found.invariant ∙ next_point _ _ _ _ _ c.loop-found-test.true c.deeper-best.ensures
 
 pub returns : goal.returns
-returns c =
-    let l = c.loop-k in
-    let d = c.args.deepest.now in
-    sym (l.invariant.2 ∙ rw (deepests_end l.k d (omega arith)))
+returns c = sym (c.loop-found.invariant ∙ rw (drop_of_length-le c.args.deepest.now c.loop-found-test.false))

@@ -2,7 +2,7 @@
 -- Rests on the contracts of the lattice packer and its trial.
 use Rattle.std.proofs.Common.{rules}
 use Rattle.glyphs.specs.Rect.{rectangles}
-use Rattle.regions.specs.Ring.{piece_of}
+use Rattle.regions.specs.Pieces.{rings_of}
 use Rattle.discs.proofs.Packed.{packs_none, packs_written, packs_trial, lattice_none, lattice_at, trial_few}
 use Rattle.discs.proofs.piece.pack_lattice.Goals as goal
 
@@ -10,26 +10,26 @@ pub returns-in_default : goal.returns-in_default
 returns-in_default c =
     let a = c.args in
     packs_none a.ctx.mode a.n _ a.spots.now
-    (lattice_none (piece_of a.sizes.now a.coords.now) a.n a.ctx (rectangles a.obstacles.now) a.found a.rectangular c.in_default.not-Found)
+    (lattice_none (rings_of a.piece) a.n a.ctx (rectangles a.obstacles.now) a.found a.rectangular c.in_default.not-Found)
 
 pub returns-then-ctx : goal.returns-then-ctx
 returns-then-ctx c =
     let a = c.args in
     packs_written a.ctx.mode a.n _ _ c.pack_uniform_piece.result _ a.spots.now
-    (lattice_at (piece_of a.sizes.now a.coords.now) a.n a.ctx (rectangles a.obstacles.now) a.found a.rectangular c.in-Found.x c.in-Found.y c.in-Found.field-2 c.in-Found.is)
-    c.pack_uniform_piece.ensures.0 c.pack_uniform_piece.ensures.1 (search rules) c.requires.5
+    (lattice_at (rings_of a.piece) a.n a.ctx (rectangles a.obstacles.now) a.found a.rectangular c.in-Found.x c.in-Found.y c.in-Found.field-2 c.in-Found.is)
+    c.pack_uniform_piece.ensures.0 c.pack_uniform_piece.ensures.1 (search rules) c.requires.3
 
 pub probe_uniform_piece-requires : goal.probe_uniform_piece-requires
 probe_uniform_piece-requires c =
     let t = c.if-ctx.false in
-    (c.requires.1, c.requires.2, c.requires.0, t, c.requires.6 t, c.requires.3)
+    (c.requires.0, t, c.requires.4 t, c.requires.1)
 
 pub returns : goal.returns
 returns c =
     let r = c.probe_uniform_piece in
     let t = c.if-ctx.false in
     let a = c.args in
-    let piece = piece_of a.sizes.now a.coords.now in
+    let piece = rings_of a.piece in
     packs_trial a.ctx.mode a.n _ _ r.result _ a.spots.now t
     (lattice_at piece a.n a.ctx (rectangles a.obstacles.now) a.found a.rectangular c.in-Found.x c.in-Found.y c.in-Found.field-2 c.in-Found.is)
-    r.ensures (trial_few piece a.n a.ctx (rectangles a.obstacles.now) a.found a.rectangular t (c.requires.6 t))
+    r.ensures (trial_few piece a.n a.ctx (rectangles a.obstacles.now) a.found a.rectangular t (c.requires.4 t))

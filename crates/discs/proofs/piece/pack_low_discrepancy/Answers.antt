@@ -2,7 +2,7 @@
 -- Rests on the contracts of the packer and of the anchor.
 use Rattle.std.proofs.Common.{rules}
 use Rattle.glyphs.specs.Rect.{rectangles}
-use Rattle.regions.specs.Ring.{piece_of}
+use Rattle.regions.specs.Pieces.{rings_of}
 use Rattle.discs.proofs.Packed.{packs_written, low_none, low_at}
 use Rattle.discs.proofs.piece.pack_low_discrepancy.Goals as goal
 
@@ -10,12 +10,12 @@ pub returns-in_default : goal.returns-in_default
 returns-in_default c =
     let a = c.args in
     packs_written a.ctx.mode a.n _ _ c.pack_low_discrepancy_piece.result _ a.spots.now
-    (low_none (piece_of a.sizes.now a.coords.now) a.n a.ctx (rectangles a.obstacles.now) a.found c.in_default.not-Found)
-    c.pack_low_discrepancy_piece.ensures.0 c.pack_low_discrepancy_piece.ensures.1 (search rules) c.requires.3
+    (low_none (rings_of a.piece) a.n a.ctx (rectangles a.obstacles.now) a.found c.in_default.not-Found)
+    c.pack_low_discrepancy_piece.ensures.0 c.pack_low_discrepancy_piece.ensures.1 (search rules) c.requires.1
 
 pub returns : goal.returns
 returns c =
     let a = c.args in
     packs_written a.ctx.mode a.n _ _ c.pack_low_discrepancy_piece-2.result _ a.spots.now
-    (low_at (piece_of a.sizes.now a.coords.now) a.n a.ctx (rectangles a.obstacles.now) a.found c.in-Found.x c.in-Found.y c.in-Found.field-2 _ c.in-Found.is c.lone_anchor-anchor.ensures)
-    c.pack_low_discrepancy_piece-2.ensures.0 c.pack_low_discrepancy_piece-2.ensures.1 (search rules) c.requires.3
+    (low_at (rings_of a.piece) a.n a.ctx (rectangles a.obstacles.now) a.found c.in-Found.x c.in-Found.y c.in-Found.field-2 _ c.in-Found.is c.lone_anchor-anchor.ensures)
+    c.pack_low_discrepancy_piece-2.ensures.0 c.pack_low_discrepancy_piece-2.ensures.1 (search rules) c.requires.1

@@ -1,21 +1,22 @@
 -- `size_for` meets its contract, by the radius that the options state and the ceiling.
 -- Rests on what `size_under` ensures.
 use Rattle.std.proofs.Common.{◌≡◌, Bool, List, ap, sym, ◌∙◌}
-use Rattle.std.specs.Prelude.{Float}
+use Rattle.std.specs.Prelude.{Float, None, Some, Option}
 use Rattle.glyphs.specs.declared.rect.Rectangle.{Rectangle}
 use Rattle.discs.specs.declared.options.Radius.{Radius}
 use Rattle.discs.specs.declared.options.Radius.TheVariants.{Auto}
-use Rattle.discs.specs.declared.ceiling.Chosen.{Chosen}
-use Rattle.discs.specs.declared.ceiling.Chosen.TheVariants.{Some}
-use Rattle.discs.specs.declared.radius.Sizing.TheVariants.{At}
 use Rattle.discs.specs.PlaceGlyphs.{size_for, size_under}
 use Rattle.discs.proofs.radius.size_for.Goals as goal
 
 automatic :
-    (fits : List Rectangle → Float → Bool) (obstacles : List Rectangle) (radius : Radius) (ceiling : Chosen) (r : Float)
-    → radius ≡ Auto → ceiling ≡ Some r → size_for fits obstacles radius ceiling ≡ At (size_under fits obstacles r)
+    (fits : List Rectangle → Float → Bool) (obstacles : List Rectangle) (radius : Radius) (ceiling : Option Float) (r : Float)
+    → radius ≡ Auto → ceiling ≡ Some r → size_for fits obstacles radius ceiling ≡ Some (size_under fits obstacles r)
 unfolding size_for
 automatic fits obstacles radius ceiling r e h = rw (e, h)
+
+without : (fits : List Rectangle → Float → Bool) (obstacles : List Rectangle) (radius : Radius) (ceiling : Option Float) → radius ≡ Auto → ceiling ≡ None → size_for fits obstacles radius ceiling ≡ None
+unfolding size_for
+without fits obstacles radius ceiling e h = rw (e, h)
 
 pub returns-then-r-is_finite : goal.returns-then-r-is_finite
 unfolding size_for
@@ -25,12 +26,11 @@ pub returns-in-Stated : goal.returns-in-Stated
 unfolding size_for
 returns-in-Stated c = rw (c.in-Stated.is, ← c.is_finite.ensures, c.if-r-is_finite.false)
 
-pub returns-in_default-ceiling : goal.returns-in_default-ceiling
-unfolding size_for
-returns-in_default-ceiling c = rw (c.in_default.is, c.in_default-ceiling.is)
+pub returns-in_err-r_hi : goal.returns-in_err-r_hi
+returns-in_err-r_hi c = c.from_residual.ensures ∙ sym (without _ _ _ _ c.in_default.is c.in_err-r_hi.was)
 
 pub size_under-requires : goal.size_under-requires
 size_under-requires c = c.requires
 
 pub returns : goal.returns
-returns c = ap At c.size_under.ensures ∙ sym (automatic _ _ _ _ _ c.in_default.is c.in-Some.is)
+returns c = ap Some c.size_under.ensures ∙ sym (automatic _ _ _ _ _ c.in_default.is c.in_ok-r_hi.was)

@@ -3,15 +3,10 @@
 use Rattle.std.proofs.Common.{◌≡◌, ap, ◌∙◌}
 use Rattle.glyphs.specs.Hash.{fnv1a}
 use Rattle.glyphs.specs.Stream.{seeded}
-use Rattle.discs.proofs.Packed.{no_trial}
 use Rattle.discs.proofs.region.pack_region.Goals as goal
-
-pub pack_pieces-requires : goal.pack_pieces-requires
-pack_pieces-requires c = (c.requires.0, c.requires.1, no_trial c.args.ctx.mode c.requires.2)
 
 pub returns : goal.returns
 returns c =
     let a = c.args in
     let start : c.seeded-start.result ≡ seeded a.options.seed (fnv1a a.key.now) = c.seeded-start.ensures ∙ ap (seeded a.options.seed) c.fnv1a.ensures in
-    let all = rw start at c.pack_pieces.ensures in
-    (all.counted, all.spots c.requires.2)
+    rw start at c.pack_pieces.ensures

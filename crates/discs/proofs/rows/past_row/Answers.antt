@@ -1,43 +1,41 @@
 -- `past_row` meets its contract.
--- Rests on what a zone's pieces are known to hold, and on the parts that the code cuts.
-use Rattle.std.proofs.Common.{◌≡◌, ◌*◌, take, drop, ◌∙◌, arith, length-drop, rules}
+-- Rests on what a zone's pieces are known to hold.
+use Rattle.std.proofs.Common.{◌*◌, ◌≤◌, take, drop, length, arith, length-drop}
 use Rattle.regions.specs.Ring.{sum}
-use Rattle.discs.specs.Floor.{cut, past_row}
-use Rattle.discs.proofs.Written.{rest_is}
-use Rattle.discs.proofs.Zones.{part_is, laid_rings, laid_coords}
+use Rattle.discs.specs.Floor.{past_row}
+use Rattle.discs.proofs.Zones.{laid_rings, laid_coords}
 use Rattle.discs.proofs.rows.past_row.Goals as goal
 
-pub offset_bounds-rings-p : goal.offset_bounds-rings-p
-offset_bounds-rings-p c = search rules
-
-pub slice_bounds-sizes_of-count : goal.slice_bounds-sizes_of-count
-slice_bounds-sizes_of-count c = search rules
-
-pub slice_bounds-sizes_of-start : goal.slice_bounds-sizes_of-start
-slice_bounds-sizes_of-start c = search rules
-
-pub slice_bounds-sizes_of-end : goal.slice_bounds-sizes_of-end
-slice_bounds-sizes_of-end c = search rules
-
-pub sizes_of-own-requires : goal.sizes_of-own-requires
-sizes_of-own-requires c =
+pub total-requires : goal.total-requires
+total-requires c =
     let a = c.args in
-    rw (part_is a.at.piece a.row.pieces a.rings.now, rest_is a.sizes.now a.at.ring) (laid_rings _ _ _ c.requires.3)
+    let fits : sum (take a.row.pieces c.split_at.result.1.now) ≤ length (drop a.at.ring a.sizes.now) = rw c.split_at.ensures.back (laid_rings _ _ _ c.requires.3) in
+    omega (arith, fits, length-drop a.at.ring a.sizes.now)
 
-pub coords_in-requires : goal.coords_in-requires
-coords_in-requires c =
-    let a = c.args in
-    rw (c.sizes_of-own.ensures, part_is a.at.piece a.row.pieces a.rings.now, rest_is a.sizes.now a.at.ring, rest_is a.coords.now a.at.coord) (laid_coords _ _ _ c.requires.3)
+pub split_at-requires-3 : goal.split_at-requires-3
+split_at-requires-3 c = rw (c.total.ensures, c.split_at.ensures.back, c.split_at-2.ensures.back) (laid_rings _ _ _ c.requires.3)
 
-pub overflow_add-result-2 : goal.overflow_add-result-2
-overflow_add-result-2 c =
+pub total-requires-2 : goal.total-requires-2
+total-requires-2 c =
     let a = c.args in
-    let e : c.coords_in.result ≡ sum (take (sum (cut a.at.piece a.row.pieces a.rings.now)) (drop a.at.ring a.sizes.now)) * 2 =
-    c.coords_in.ensures ∙ rw (c.sizes_of-own.ensures, part_is a.at.piece a.row.pieces a.rings.now, rest_is a.sizes.now a.at.ring) in
-    record { fits = omega (arith, e, laid_coords _ _ _ c.requires.3, length-drop a.at.coord a.coords.now) }
+    let fits : sum c.split_at-3.result.0.now * 2 ≤ length (drop a.at.coord a.coords.now) =
+    rw (c.split_at-3.ensures.front, c.total.ensures, c.split_at.ensures.back, c.split_at-2.ensures.back) (laid_coords _ _ _ c.requires.3) in
+    omega (arith, fits, length-drop a.at.coord a.coords.now)
+
+pub overflow_mul-result : goal.overflow_mul-result
+overflow_mul-result c =
+    let a = c.args in
+    let fits : sum c.split_at-3.result.0.now * 2 ≤ length (drop a.at.coord a.coords.now) =
+    rw (c.split_at-3.ensures.front, c.total.ensures, c.split_at.ensures.back, c.split_at-2.ensures.back) (laid_coords _ _ _ c.requires.3) in
+    omega (arith, fits, c.total-2.ensures, length-drop a.at.coord a.coords.now)
+
+pub overflow_add-result-3 : goal.overflow_add-result-3
+overflow_add-result-3 c =
+    let a = c.args in
+    let fits : sum c.split_at-3.result.0.now * 2 ≤ length (drop a.at.coord a.coords.now) =
+    rw (c.split_at-3.ensures.front, c.total.ensures, c.split_at.ensures.back, c.split_at-2.ensures.back) (laid_coords _ _ _ c.requires.3) in
+    omega (arith, fits, c.total-2.ensures, length-drop a.at.coord a.coords.now)
 
 pub returns : goal.returns
 unfolding past_row
-returns c =
-    let a = c.args in
-    rw (c.coords_in.ensures, c.sizes_of-own.ensures, part_is a.at.piece a.row.pieces a.rings.now, rest_is a.sizes.now a.at.ring)
+returns c = rw (c.total-2.ensures, c.split_at-3.ensures.front, c.total.ensures, c.split_at.ensures.back, c.split_at-2.ensures.back)

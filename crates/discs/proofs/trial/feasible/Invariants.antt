@@ -1,22 +1,15 @@
 -- `feasible` meets its contract. The invariant: the answer is that of the zones left.
 -- Rests on a turn over zones.
-use Rattle.std.proofs.Common.{◌≡◌, ◌-◌, ◌≤◌, length}
+use Rattle.std.proofs.Common.{◌≡◌, length, drop}
 use Rattle.laws.specs.Any.{all}
 use Rattle.glyphs.specs.Rect.{rectangles}
 use Rattle.discs.specs.Radius.{context_at, probe}
 use Rattle.discs.specs.Floor.{handed_from, handed_work, work_in, holds_all, handed_feasible, EachRow, Packable}
 use Rattle.discs.proofs.trial.feasible.Given as goal
 
-abbrev pub invariant-loop-z : goal.invariant-loop-z
-invariant-loop-z l =
-    (l.z ≤ l.n)
-    × EachRow l.rows l.rings l.sizes (Packable l.s l.rings l.sizes l.coords l.quotas l.deepest) (l.n - l.z) l.z l.at
+abbrev pub invariant-loop-row : goal.invariant-loop-row
+invariant-loop-row l =
+    EachRow l.zones.rings.now l.zones.sizes.now (Packable l.zones.bytes.now l.zones.rings.now l.zones.sizes.now l.zones.coords.now l.zones.quotas.now l.zones.deepest.now) (drop l.row-index l.zones.rows.now) l.at
     × (length l.near ≡ length l.initial.near)
-    × (length l.second ≡ length l.initial.second)
-    × (length l.flags ≡ length l.initial.flags)
-    × (length l.spots ≡ length l.initial.spots)
-    × (handed_feasible l.numbers l.options (work_in l.s l.n l.rows l.rings l.sizes l.coords l.quotas l.deepest) (rectangles l.obstacles) l.r
-    ≡ all (holds_all l.numbers l.options (context_at l.options probe l.r) (rectangles l.obstacles)) (handed_work (handed_from l.s l.rings l.sizes l.coords l.quotas l.deepest l.rows (l.n - l.z) l.z l.at)))
-
-abbrev pub decreases-loop-z : goal.decreases-loop-z
-decreases-loop-z l = l.n - l.z
+    × (handed_feasible l.packing.numbers l.packing.options (work_in l.zones.bytes.now l.zones.rows.now l.zones.rings.now l.zones.sizes.now l.zones.coords.now l.zones.quotas.now l.zones.deepest.now) (rectangles l.packing.obstacles.now) l.r
+    ≡ all (holds_all l.packing.numbers l.packing.options (context_at l.packing.options probe l.r) (rectangles l.packing.obstacles.now)) (handed_work (handed_from l.zones.bytes.now l.zones.rings.now l.zones.sizes.now l.zones.coords.now l.zones.quotas.now l.zones.deepest.now (drop l.row-index l.zones.rows.now) l.at)))

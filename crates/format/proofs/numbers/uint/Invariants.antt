@@ -1,12 +1,9 @@
--- `uint` reads a number of n bytes. Invariant: v is the number of the first i bytes.
+-- `uint` reads a number. Invariant: it is the number of the bytes so far.
 -- Rests on `uint_next` and on the room of one digit more.
 use mathlib.Core.Path.{◌≡◌}
-use Prim.Native.Nat.{◌-◌, ◌^◌, ◌<◌, ◌≤◌}
+use Prim.Native.Nat.{◌^◌, ◌<◌}
 use Rattle.format.specs.Numbers.{uint}
 use Rattle.format.proofs.numbers.uint.Given as goal
 
-abbrev pub invariant-loop-i : goal.invariant-loop-i
-invariant-loop-i l = (l.i ≤ l.n) × (l.v < 256 ^ l.i) × (l.v ≡ uint l.i l.s l.at)
-
-abbrev pub decreases-loop-i : goal.decreases-loop-i
-decreases-loop-i l = l.n - l.i
+abbrev pub invariant-loop-byte : goal.invariant-loop-byte
+invariant-loop-byte l = (l.number < 256 ^ l.byte-index) × (l.number ≡ uint l.byte-index l.bytes 0)

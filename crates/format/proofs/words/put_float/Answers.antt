@@ -1,21 +1,20 @@
 -- `put_float` writes a float's bits.
 -- Rests on what `put_uint` ensures and the bits of the one NaN.
-use Rattle.float.specs.Laws.Nan.{is_nan_lem, is_number}
+use mathlib.Core.Path.{◌≡◌, ◌∙◌, sym}
+use Rattle.std.specs.Float.{binary64}
+use Rattle.std.specs.Float.Ieee.{to_bits}
 use Rattle.format.specs.Numbers.{float_bytes}
 use Rattle.format.specs.NumberLaws.{nan_bits}
-use borrow.Author.Rules.{rules}
 use Rattle.format.proofs.words.put_float.Goals as goal
+use Rattle.format.proofs.words.put_float.Goals.{then-is_nan, else-is_nan}
 
-pub put_uint-requires : goal.put_uint-requires
-put_uint-requires c = search rules
-
-pub float_to_bits-x : goal.float_to_bits-x
-float_to_bits-x c = is_number _ c.if-x.false
-
-pub returns-then-x : goal.returns-then-x
+pub returns : goal.returns
 unfolding float_bytes
-returns-then-x c = cc (nan_bits _ (is_nan_lem _ c.if-x.true))
-
-pub returns-else-x : goal.returns-else-x
-unfolding float_bytes
-returns-else-x c = cc
+returns c =
+    let x = c.args.x in
+    let e : c.if-is_nan.bits ≡ to_bits binary64 x =
+    elim c.if-is_nan.branch [
+      | then-is_nan w ↦ w.bits-is ∙ sym (nan_bits x (sym c.is_nan.ensures.value ∙ w.if-is_nan.true))
+      | else-is_nan w ↦ w.bits-is
+    ] in
+    rw e at c.put_uint.ensures

@@ -8,10 +8,10 @@ pub returns-then-ring-lt3 : goal.returns-then-ring-lt3
 unfolding ring_bounds box_of
 returns-then-ring-lt3 c = rw (lt-ltb _ _ c.if-ring-lt3.true)
 
-pub returns-then-e : goal.returns-then-e
+pub returns-then-bounds : goal.returns-then-bounds
 unfolding ring_bounds box_of
-returns-then-e c = rw (le-ltb _ _ c.if-ring-lt3.false, ← c.ring_extents-e.ensures, c.if-e.true)
+returns-then-bounds c = rw (le-ltb _ _ c.if-ring-lt3.false, ← c.ring_extents-bounds.ensures, c.if-bounds.true)
 
 pub returns : goal.returns
 unfolding ring_bounds box_of
-returns c = rw (le-ltb _ _ c.if-ring-lt3.false, ← c.ring_extents-e.ensures, c.if-e.false)
+returns c = rw (le-ltb _ _ c.if-ring-lt3.false, ← c.ring_extents-bounds.ensures, c.if-bounds.false)

@@ -6,12 +6,12 @@ use Rattle.glyphs.proofs.bounds.ring_extents.Goals as goal
 
 pub loop-i-init : goal.loop-i-init
 unfolding extent
-loop-i-init c = (search rules, search rules, rw infinite, rw minus_infinite, rw infinite, rw minus_infinite)
+loop-i-init c = (search rules, rw infinite, rw minus_infinite, rw infinite, rw minus_infinite)
 
 pub loop-i-preserved : goal.loop-i-preserved
 unfolding extent
-loop-i-preserved c = (search rules, search rules, rw add-one (cc), rw add-one (cc), rw add-one (cc), rw add-one (cc))
+loop-i-preserved c = (search rules, rw add-one (cc), rw add-one (cc), rw add-one (cc), rw add-one (cc))
 
 pub returns : goal.returns
 unfolding extents_of
-returns c = cc (le_antisymm c.loop-i.invariant.0 c.loop-i-test.false)
+returns c = cc (le_antisymm c.loop-i.auto.i-end c.loop-i-test.false)

@@ -10,24 +10,23 @@ int_to_float-b c = in_float_lem _ (search rules)
 
 pub loop-j-init : goal.loop-j-init
 unfolding weight_at
-loop-j-init c = (search rules, refl, refl, refl, none_yet _ _)
+loop-j-init c = (refl, refl, refl, none_yet _ _)
 
 pub loop-j-preserved : goal.loop-j-preserved
 loop-j-preserved c =
     let l = c.loop-j in
     let base = c.args.base in (
-      search rules,
-      simp length-set l.invariant.1,
+      simp length-set l.invariant.0,
       refl,
-      next_weight base l.j l.weight l.invariant.3,
-      one_more base l.j l.weights l.weight (search rules) l.invariant.3 l.invariant.4,
+      next_weight base l.j l.weight l.invariant.2,
+      one_more base l.j l.weights l.weight (search rules) l.invariant.2 l.invariant.3,
     )
 
 pub shape_of-weights : goal.shape_of-weights
-shape_of-weights c = c.loop-j.invariant.1
+shape_of-weights c = c.loop-j.invariant.0
 
 pub returns : goal.returns
 returns c =
     let l = c.loop-j in
     let e : l.j ≡ 64 = omega arith in
-    subst (λ (n : ℕ). Upto c.args.base n l.weights) e l.invariant.4
+    subst (λ (n : ℕ). Upto c.args.base n l.weights) e l.invariant.3

@@ -5,17 +5,16 @@ use Rattle.laws.specs.Folds.{fold_step, fold_end}
 use Rattle.glyphs.specs.Hash.{fnv1a, mix_byte}
 use Rattle.glyphs.proofs.hash.fnv1a.Goals as goal
 
-pub loop-i-init : goal.loop-i-init
+pub loop-b-init : goal.loop-b-init
 unfolding fnv1a
-loop-i-init c = (search rules, refl)
+loop-b-init c = refl
 
-pub loop-i-preserved : goal.loop-i-preserved
-loop-i-preserved c =
-    let l = c.loop-i in
-    let bytes = c.args.bytes.now in
-    (search rules, cc (fold_step mix_byte l.hash bytes l.i 0 (search rules)))
+pub loop-b-preserved : goal.loop-b-preserved
+loop-b-preserved c =
+    let l = c.loop-b in
+    cc (fold_step mix_byte l.hash c.args.bytes.now l.b-index 0 (search rules))
 
 pub returns : goal.returns
 returns c =
-    let l = c.loop-i in
-    cc (fold_end mix_byte l.hash c.args.bytes.now l.i (search rules))
+    let l = c.loop-b in
+    cc (fold_end mix_byte l.hash c.args.bytes.now l.b-index (search rules))

@@ -1,12 +1,9 @@
 -- `fnv1a` hashes its bytes. Invariant: the hash of the bytes left, from the hash so far, is that of all.
 -- Rests on what `mix_byte` ensures and the laws of a fold.
-use Rattle.std.proofs.Common.{◌≡◌, ◌-◌, ◌≤◌, length, drop}
+use Rattle.std.proofs.Common.{◌≡◌, drop}
 use mathlib.Core.List.{foldl}
 use Rattle.glyphs.specs.Hash.{fnv1a, mix_byte}
 use Rattle.glyphs.proofs.hash.fnv1a.Given as goal
 
-abbrev pub invariant-loop-i : goal.invariant-loop-i
-invariant-loop-i l = (l.i ≤ length l.bytes) × (foldl mix_byte l.hash (drop l.i l.bytes) ≡ fnv1a l.bytes)
-
-abbrev pub decreases-loop-i : goal.decreases-loop-i
-decreases-loop-i l = length l.bytes - l.i
+abbrev pub invariant-loop-b : goal.invariant-loop-b
+invariant-loop-b l = foldl mix_byte l.hash (drop l.b-index l.bytes) ≡ fnv1a l.bytes

@@ -7,16 +7,15 @@ use Rattle.glyphs.proofs.quotas.apportion.Goals as goal
 
 pub loop-i-init : goal.loop-i-init
 unfolding tabulate written
-loop-i-init c = (search rules, refl, refl)
+loop-i-init c = (refl, refl)
 
 pub loop-i-preserved : goal.loop-i-preserved
 loop-i-preserved c =
     let l = c.loop-i in
     let a = c.args in
     let quota = quota_of a.n c.total-sum.result c.left_over-left.result a.weights.now in (
-      search rules,
-      length-set l.quotas l.i c.quota_of.result ∙ l.invariant.1,
-      write_next quota l.quotas a.quotas.now l.i c.quota_of.result l.invariant.2 c.quota_of.ensures (search rules),
+      length-set l.quotas l.i c.quota_of.result ∙ l.invariant.0,
+      write_next quota l.quotas a.quotas.now l.i c.quota_of.result l.invariant.1 c.quota_of.ensures (search rules),
     )
 
 pub returns : goal.returns
@@ -26,4 +25,4 @@ returns c =
     let e : l.i ≡ length a.weights.now = omega arith in
     let t = c.total-sum.ensures in
     let v = c.left_over-left.ensures in
-    l.invariant.2 ∙ rw (apportioned, e, v, t)
+    l.invariant.1 ∙ rw (apportioned, e, v, t)

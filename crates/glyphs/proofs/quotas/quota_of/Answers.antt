@@ -1,13 +1,18 @@
 -- `quota_of` is the quota of one piece: all or nothing without weight, else its floor and one by its rank.
--- Rests on what `whole_share`, `rank_of` and `first_only` ensure.
+-- Rests on what `whole_share` and `rank_of` ensure.
 use Rattle.std.proofs.Common.{sym, ◌∙◌, arith, rules, le-ltb, lt-ltb}
 use lib.Ieee.{nan}
+use Rattle.laws.specs.Choice.{picks}
 use Rattle.glyphs.specs.Quotas.{quota_of, floor_below, by_rank}
 use Rattle.glyphs.proofs.quotas.quota_of.Goals as goal
 
-pub returns-then-no_weight : goal.returns-then-no_weight
+pub returns-then-i-eq0 : goal.returns-then-i-eq0
 unfolding quota_of
-returns-then-no_weight c = rw (← c.no_weight.ensures, c.if-no_weight.true) c.first_only.ensures
+returns-then-i-eq0 c = rw (← c.no_weight.ensures, c.if-no_weight.true) (search picks)
+
+pub returns-else-i-eq0 : goal.returns-else-i-eq0
+unfolding quota_of
+returns-else-i-eq0 c = rw (← c.no_weight.ensures, c.if-no_weight.true) (search picks)
 
 pub overflow_add-result : goal.overflow_add-result
 overflow_add-result c =

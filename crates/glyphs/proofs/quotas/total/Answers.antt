@@ -7,17 +7,17 @@ use Rattle.laws.specs.Folds.{fold_step, fold_end}
 use Rattle.glyphs.specs.Apportion.{total}
 use Rattle.glyphs.proofs.quotas.total.Goals as goal
 
-pub loop-i-init : goal.loop-i-init
+pub loop-weight-init : goal.loop-weight-init
 unfolding total
-loop-i-init c = (search rules, refl)
+loop-weight-init c = refl
 
-pub loop-i-preserved : goal.loop-i-preserved
-loop-i-preserved c =
-    let l = c.loop-i in
+pub loop-weight-preserved : goal.loop-weight-preserved
+loop-weight-preserved c =
+    let l = c.loop-weight in
     let weights = c.args.weights.now in
-    (search rules, cc (fold_step ◌+ᶠ◌ l.sum weights l.i nan (search rules)))
+    cc (fold_step ◌+ᶠ◌ l.sum weights l.weight-index nan (search rules))
 
 pub returns : goal.returns
 returns c =
-    let l = c.loop-i in
-    cc (fold_end ◌+ᶠ◌ l.sum c.args.weights.now l.i (search rules))
+    let l = c.loop-weight in
+    cc (fold_end ◌+ᶠ◌ l.sum c.args.weights.now l.weight-index (search rules))

@@ -20,24 +20,23 @@ loop-k-preserved c =
     let e = c.apart_from_eight in
     (search rules, search rules, rw (c.loop-k.invariant.2, all_block _ 8 _ _, ← e.ensures, c.if-not-apart_from_eight.false))
 
-pub loop-k-2-init : goal.loop-k-2-init
-loop-k-2-init c = c.loop-k.invariant
+pub loop-i-init : goal.loop-i-init
+loop-i-init c = (search rules, c.loop-k.invariant.2)
 
-pub loop-k-2-preserved : goal.loop-k-2-preserved
-loop-k-2-preserved c =
-    let l = c.loop-k-2 in
+pub loop-i-preserved : goal.loop-i-preserved
+loop-i-preserved c =
+    let l = c.loop-i in
     let s = c.args.spots.now in
     let q = c.spot in
-    let h : l.k < length (spots_of s) = simp length_spots (omega arith) in (
+    let h : l.i < length (spots_of s) = simp length_spots (omega arith) in (
       search rules,
-      search rules,
-      l.invariant.2
-          ∙ rw (all_step _ _ _ q.result h, spots_at_lem s l.k q.result (omega arith), ← q.ensures, ← c.apart-ok.ensures) (sym (and_assoc l.ok _ _)),
+      l.invariant.1
+          ∙ rw (all_step _ _ _ q.result h, spots_at_lem s l.i q.result (omega arith), ← q.ensures, ← c.apart-ok.ensures) (sym (and_assoc l.ok _ _)),
     )
 
 pub returns : goal.returns
 returns c =
-    let l = c.loop-k-2 in
+    let l = c.loop-i in
     let s = c.args.spots.now in
-    let h : length (spots_of s) ≤ l.k = simp length_spots (omega arith) in
-    rw (l.invariant.2, all_end _ _ _ h, and-true)
+    let h : length (spots_of s) ≤ l.i = simp length_spots (omega arith) in
+    rw (l.invariant.1, all_end _ _ _ h, and-true)

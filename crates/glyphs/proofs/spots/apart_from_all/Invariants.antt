@@ -12,9 +12,5 @@ invariant-loop-k l =
 abbrev pub decreases-loop-k : goal.decreases-loop-k
 decreases-loop-k l = l.n - l.k
 
-abbrev pub invariant-loop-k-2 : goal.invariant-loop-k-2
-invariant-loop-k-2 l =
-    (l.k ≤ l.n) × (l.n ≡ length l.spots / 2) × (all (apart l.x l.y l.least) (spots_of l.spots) ≡ l.ok && all (apart l.x l.y l.least) (drop l.k (spots_of l.spots)))
-
-abbrev pub decreases-loop-k-2 : goal.decreases-loop-k-2
-decreases-loop-k-2 l = l.n - l.k
+abbrev pub invariant-loop-i : goal.invariant-loop-i
+invariant-loop-i l = (l.n ≡ length l.spots / 2) × (all (apart l.x l.y l.least) (spots_of l.spots) ≡ l.ok && all (apart l.x l.y l.least) (drop l.i (spots_of l.spots)))

@@ -8,7 +8,7 @@ use Rattle.glyphs.proofs.spots.apart_from_eight.Goals as goal
 
 pub loop-j-init : goal.loop-j-init
 unfolding all
-loop-j-init c = (search rules, refl)
+loop-j-init c = refl
 
 pub loop-j-preserved : goal.loop-j-preserved
 loop-j-preserved c =
@@ -18,9 +18,9 @@ loop-j-preserved c =
     let h : l.j < length (drop a.k s) = simp (length-drop, length_spots) (omega arith) in
     let d = c.spot.result in
     let at : get_or (drop a.k s) l.j d ≡ d = rw (get_or-drop, spots_at_lem a.spots.now (a.k + l.j) d (omega arith)) (cc) in
-    (search rules, rw (all_next (apart a.x a.y a.least) (drop a.k s) l.j d h, at) (cc))
+    rw (all_next (apart a.x a.y a.least) (drop a.k s) l.j d h, at) (cc)
 
 pub returns : goal.returns
 returns c =
     let e : c.loop-j.j ≡ 8 = omega arith in
-    c.loop-j.invariant.1 ∙ rw e
+    c.loop-j.invariant ∙ rw e

@@ -1,12 +1,9 @@
 -- `apart_from_eight` meets its contract. The invariant: `ok` is the answer for the first j of the eight.
 -- Rests on the laws of `all` over the first elements.
-use Rattle.std.proofs.Common.{◌≡◌, ◌-◌, ◌≤◌, take, drop}
+use Rattle.std.proofs.Common.{◌≡◌, take, drop}
 use Rattle.laws.specs.Any.{all}
 use Rattle.glyphs.specs.Spots.{apart, spots_of}
 use Rattle.glyphs.proofs.spots.apart_from_eight.Given as goal
 
 abbrev pub invariant-loop-j : goal.invariant-loop-j
-invariant-loop-j l = (l.j ≤ 8) × (l.ok ≡ all (apart l.x l.y l.least) (take l.j (drop l.k (spots_of l.spots))))
-
-abbrev pub decreases-loop-j : goal.decreases-loop-j
-decreases-loop-j l = 8 - l.j
+invariant-loop-j l = l.ok ≡ all (apart l.x l.y l.least) (take l.j (drop l.k (spots_of l.spots)))

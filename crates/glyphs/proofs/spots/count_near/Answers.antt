@@ -7,7 +7,7 @@ use Rattle.glyphs.specs.Spots.{near_count, spots_of, spots_at_lem, length_spots,
 use Rattle.glyphs.proofs.spots.count_near.Goals as goal
 
 pub loop-k-init : goal.loop-k-init
-loop-k-init c = (search rules, search rules, search rules, omega arith)
+loop-k-init c = (search rules, search rules, omega arith)
 
 pub overflow_add-count : goal.overflow_add-count
 overflow_add-count c = omega (arith, flag_le (not c.apart.result))
@@ -21,7 +21,7 @@ loop-k-preserved c =
     let h : l.k < length s = simp length_spots (omega arith) in
     let own : near_count a.x a.y a.least (drop l.k s) ≡ bool_byte (not c.apart.result) + near_count a.x a.y a.least (drop (l.k + 1) s) =
     rw (near_step _ _ _ s l.k q.result h, spots_at_lem a.spots.now l.k q.result (omega arith), ← q.ensures, ← c.apart.ensures) in
-    (search rules, search rules, omega (arith, flag_le (not c.apart.result)), omega (arith, own))
+    (search rules, omega (arith, flag_le (not c.apart.result)), omega (arith, own))
 
 pub returns : goal.returns
 returns c =

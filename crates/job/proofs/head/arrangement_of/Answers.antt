@@ -4,18 +4,18 @@ use Rattle.laws.specs.Choice.{picks}
 use Rattle.job.specs.Head.{arrangement_of}
 use Rattle.job.proofs.head.arrangement_of.Goals as goal
 
-pub returns-then-n-eq0 : goal.returns-then-n-eq0
+pub returns-in-0 : goal.returns-in-0
 unfolding arrangement_of
-returns-then-n-eq0 c = search picks
+returns-in-0 c = search picks
 
-pub returns-then-n-eq1 : goal.returns-then-n-eq1
+pub returns-in-1 : goal.returns-in-1
 unfolding arrangement_of
-returns-then-n-eq1 c = search picks
+returns-in-1 c = rw c.in-1.is
 
-pub returns-then-n-eq2 : goal.returns-then-n-eq2
+pub returns-in-2 : goal.returns-in-2
 unfolding arrangement_of
-returns-then-n-eq2 c = search picks
+returns-in-2 c = rw c.in-2.is
 
-pub returns : goal.returns
+pub returns-in_default : goal.returns-in_default
 unfolding arrangement_of
-returns c = search picks
+returns-in_default c = search picks

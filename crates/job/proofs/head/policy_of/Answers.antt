@@ -4,10 +4,10 @@ use Rattle.laws.specs.Choice.{picks}
 use Rattle.job.specs.Head.{policy_of}
 use Rattle.job.proofs.head.policy_of.Goals as goal
 
-pub returns-then-n-eq0 : goal.returns-then-n-eq0
+pub returns-in-0 : goal.returns-in-0
 unfolding policy_of
-returns-then-n-eq0 c = search picks
+returns-in-0 c = search picks
 
-pub returns : goal.returns
+pub returns-in_default : goal.returns-in_default
 unfolding policy_of
-returns c = search picks
+returns-in_default c = search picks

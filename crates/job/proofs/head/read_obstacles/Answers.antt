@@ -1,37 +1,37 @@
 -- `read_obstacles` reads the obstacles.
--- Rests on what `item`, `uint` and `coords` ensure.
-use mathlib.Core.Path.{◌≡◌, sym, ◌∙◌}
+-- Rests on what `item` and `coords` ensure.
+use mathlib.Core.Path.{◌∙◌}
 use native.Mathlib.Omega.{arith}
-use Prim.Native.Nat.{◌*◌}
-use Rattle.format.specs.Rows.{faults}
-use Rattle.format.specs.Numbers.{u16, coord_in, next_coord}
-use Rattle.format.specs.RowLaws.{rows, sets_written}
-use Rattle.format.specs.NumberLaws.{item_passed}
-use Rattle.job.specs.HeadLaws.{length_obstacles}
+use Rattle.format.specs.RefusalLaws.{fails, passes, handed}
 use Rattle.job.specs.Head.{obstacles_fault, obstacles_end, obstacles}
 use Rattle.job.proofs.head.read_obstacles.Goals as goal
 
-pub returns-then-fault-ne0 : goal.returns-then-fault-ne0
+pub returns-in_err-n-clause-fault : goal.returns-in_err-n-clause-fault
 unfolding obstacles_fault
-returns-then-fault-ne0 c = record { fault = search rows; read = λ e. absurd (c.if-fault-ne0.true e) }
+returns-in_err-n-clause-fault c = fails _ _ _ _ (c.in_err-n.ensures.fault ∙ rw c.requires.0) c.from_residual.ensures.1
 
-pub uint-n-requires : goal.uint-n-requires
-uint-n-requires c = ((item_passed 2 c.args.s.now 37 0 64 8 (omega arith) (cc)).inside, omega arith)
+pub returns-in_err-coords-clause-fault : goal.returns-in_err-coords-clause-fault
+unfolding obstacles_fault
+returns-in_err-coords-clause-fault c =
+    let o = c.in_ok-n.ensures in
+    passes _ _ (o.fault ∙ rw c.requires.0)
+    (handed _ _ (c.in_err-coords.ensures.fault ∙ rw (o.bytes, o.next, o.value.0, c.requires.0)) c.from_residual-in_err-coords.ensures.1)
 
-pub coords-requires : goal.coords-requires
-coords-requires c =
-    let p = item_passed 2 c.args.s.now 37 0 64 8 (omega arith) (cc) in
-    (p.inside, omega arith)
+pub returns-clause-fault : goal.returns-clause-fault
+unfolding obstacles_fault
+returns-clause-fault c =
+    let o = c.in_ok-n.ensures in
+    passes _ _ (o.fault ∙ rw c.requires.0) (c.in_ok-coords.ensures.fault ∙ rw (o.bytes, o.next, o.value.0, c.requires.0))
 
-pub returns : goal.returns
-unfolding obstacles_fault obstacles_end obstacles
-returns c =
-    let s = c.args.s.now in
-    let u : c.uint-n.result ≡ u16 s 37 = c.uint-n.ensures.0 in
-    let f : c.coords.result ≡ faults (coord_in s 8) next_coord (4 * u16 s 37) 39 = cc in
-    record {
-      fault = search rows;
-      read = λ e.
-          let r = c.coords.ensures.read e in
-          record { inside = omega arith; put = cc (r.put, sets_written (obstacles s) c.args.out.now (omega (arith, length_obstacles s, (item_passed 2 s 37 0 64 8 (omega arith) (sym c.item-fault.ensures ∙ c.if-fault-ne0.false)).to))) };
-    }
+pub returns-clause-read : goal.returns-clause-read
+unfolding obstacles
+returns-clause-read c =
+    let o = c.in_ok-n.ensures in
+    c.in_ok-coords.ensures.values ∙ rw (c.requires.1, o.bytes, o.next, o.value.0, c.requires.0)
+
+pub returns-clause-next : goal.returns-clause-next
+unfolding obstacles_end
+returns-clause-next c =
+    let o = c.in_ok-n.ensures in
+    let u = rw c.requires.0 at o.value.0 in
+    omega (arith, c.in_ok-coords.ensures.next, o.next, c.requires.0, u)

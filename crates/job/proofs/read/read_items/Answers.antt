@@ -1,77 +1,33 @@
 -- `read_items` reads the job.
 -- Rests on what its calls ensure.
-use mathlib.Core.Path.{◌≡◌, refl, sym, ◌∙◌}
-use native.Mathlib.Omega.{arith}
-use Rattle.format.specs.RowLaws.{row_fault, row_clear}
-use Rattle.format.specs.Rows.{◌or_else◌}
-use Rattle.job.specs.Head.{obstacles_fault, obstacles_end}
-use Rattle.job.specs.HeadLaws.{head_whole}
-use Rattle.job.specs.Job.{zones_fault, items_fault}
-use Rattle.job.specs.JobLaws.{zones_counted}
-use Rattle.job.proofs.Flat.{refused, answered}
+use mathlib.Core.Path.{◌∙◌}
+use Rattle.format.specs.RefusalLaws.{fails, passes, handed}
+use Rattle.job.specs.Job.{items_fault}
 use Rattle.job.proofs.read.read_items.Goals as goal
 
-pub returns-then-fault-ne0 : goal.returns-then-fault-ne0
+pub returns-in_err-options-clause-fault : goal.returns-in_err-options-clause-fault
 unfolding items_fault
-returns-then-fault-ne0 c =
-    let f = row_fault _ _ (obstacles_fault c.args.s.now or_else zones_fault c.args.s.now) c.head_fault-fault.ensures c.if-fault-ne0.true refl in
-    record {
-      is = refused c.args.s.now _ f c.if-fault-ne0.true;
-      obstacle = λ e. absurd (c.if-fault-ne0.true (f ∙ e));
-      read = λ e. absurd (c.if-fault-ne0.true (f ∙ e));
-    }
+returns-in_err-options-clause-fault c =
+    fails _ _ _ _ c.in_err-options.ensures.fault c.from_residual.ensures.1
 
-pub returns-then-fault-ne0-2 : goal.returns-then-fault-ne0-2
+pub returns-in_err-read_obstacles-clause-fault : goal.returns-in_err-read_obstacles-clause-fault
 unfolding items_fault
-returns-then-fault-ne0-2 c =
-    let s = c.args.s.now in
-    let f = row_clear _ _ (obstacles_fault s or_else zones_fault s) c.head_fault-fault.ensures c.if-fault-ne0.false (row_fault _ _ (zones_fault s) c.read_obstacles-fault.ensures.fault c.if-fault-ne0-2.true refl) in
-    record {
-      is = refused s _ f c.if-fault-ne0-2.true;
-      obstacle = λ e. absurd (c.if-fault-ne0-2.true (f ∙ e));
-      read = λ e. absurd (c.if-fault-ne0-2.true (f ∙ e));
-    }
+returns-in_err-read_obstacles-clause-fault c =
+    let o = c.in_ok-options.ensures in
+    passes _ _ o.fault (fails _ _ _ _ (c.in_err-read_obstacles.ensures.fault ∙ rw o.bytes) c.from_residual-in_err-read_obstacles.ensures.1)
 
-pub uint-n-requires : goal.uint-n-requires
-unfolding obstacles_end
-uint-n-requires c = (omega (arith, (c.read_obstacles-fault.ensures.read c.if-fault-ne0-2.false).inside), omega arith)
-
-pub read_zones-fault-requires : goal.read_zones-fault-requires
-unfolding obstacles_end
-read_zones-fault-requires c =
-    let o = (c.read_obstacles-fault.ensures.read c.if-fault-ne0-2.false).inside in
-    (omega (arith, c.uint-n.ensures.0), omega (arith, c.uint-n.ensures.0, o), omega arith, omega arith, omega arith, omega arith)
-
-pub returns-then-fault-ne0-3 : goal.returns-then-fault-ne0-3
+pub returns-in_err-zones-clause-fault : goal.returns-in_err-zones-clause-fault
 unfolding items_fault
-returns-then-fault-ne0-3 c =
-    let s = c.args.s.now in
-    let f = row_clear _ _ (obstacles_fault s or_else zones_fault s) c.head_fault-fault.ensures c.if-fault-ne0.false (row_clear _ _ (zones_fault s) c.read_obstacles-fault.ensures.fault c.if-fault-ne0-2.false c.read_zones-fault.ensures.fault) in
-    record {
-      is = refused s _ f c.if-fault-ne0-3.true;
-      obstacle = λ e. absurd (c.if-fault-ne0-3.true (f ∙ e));
-      read = λ e. absurd (c.if-fault-ne0-3.true (f ∙ e));
-    }
+returns-in_err-zones-clause-fault c =
+    let o = c.in_ok-options.ensures in
+    let b = c.in_ok-read_obstacles.ensures in
+    passes _ _ o.fault
+    (passes _ _ (b.fault ∙ rw o.bytes)
+    (handed _ _ (c.in_err-zones.ensures.fault ∙ rw (b.bytes, o.bytes)) c.from_residual-in_err-zones.ensures.1))
 
-pub options_of-options-requires : goal.options_of-options-requires
-options_of-options-requires c = head_whole c.args.s.now (sym c.head_fault-fault.ensures ∙ c.if-fault-ne0.false)
-
-pub uint-m-requires : goal.uint-m-requires
-unfolding obstacles_end
-uint-m-requires c =
-    let s = c.args.s.now in
-    let p = zones_counted s (sym c.read_zones-fault.ensures.fault ∙ c.if-fault-ne0-3.false) in
-    (omega (arith, p.inside, c.uint-n.ensures.0), omega arith)
-
-pub returns : goal.returns
-unfolding items_fault obstacles_end
-returns c =
-    let s = c.args.s.now in
-    let z = c.read_zones-fault.ensures.fault in
-    let f : items_fault s ≡ 0 = sym (row_clear _ _ (obstacles_fault s or_else zones_fault s) c.head_fault-fault.ensures c.if-fault-ne0.false (row_clear _ _ (zones_fault s) c.read_obstacles-fault.ensures.fault c.if-fault-ne0-2.false (sym c.if-fault-ne0-3.false ∙ z))) in
-    let n = c.uint-n.ensures.0 in
-    record {
-      is = answered s f c.options_of-options.ensures n (c.uint-m.ensures.0 ∙ rw n);
-      obstacle = λ e. (c.read_obstacles-fault.ensures.read c.if-fault-ne0-2.false).put;
-      read = λ e. c.read_zones-fault.ensures.read c.if-fault-ne0-3.false;
-    }
+pub returns-clause-fault : goal.returns-clause-fault
+unfolding items_fault
+returns-clause-fault c =
+    let o = c.in_ok-options.ensures in
+    let b = c.in_ok-read_obstacles.ensures in
+    passes _ _ o.fault (passes _ _ (b.fault ∙ rw o.bytes) (c.in_ok-zones.ensures.fault ∙ rw (b.bytes, o.bytes)))

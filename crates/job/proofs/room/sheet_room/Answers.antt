@@ -1,31 +1,49 @@
 -- `sheet_room` adds up the rooms of rows. Invariant: the room so far and that of the rows left is all.
--- Rests on what `row_room` ensures and one turn of a walk over rows.
-use mathlib.Core.Path.{◌≡◌, ◌∙◌}
-use Prim.Native.Nat.{◌-◌}
+-- Rests on what `row_room` ensures.
+use mathlib.Core.Path.{◌≡◌, refl}
+use mathlib.Core.List.{List}
+use Prim.Native.Nat.{ℕ, ◌+◌, ◌<◌, ◌≤◌}
 use native.Mathlib.Omega.{arith}
-use Rattle.discs.specs.Floor.{row_of}
-use Rattle.job.specs.Job.{row_room}
-use Rattle.job.specs.Rows.{rows_turn, rows_end}
+use native.Mathlib.Numerals.{add-one}
+use lib.ListN.{length, drop, get_or, drop_of_length-le}
+use lib.Seq.{drop-cons}
+use Rattle.laws.specs.Every.{Every}
+use Rattle.discs.specs.declared.rows.Row.{Row}
+use Rattle.job.specs.Job.{row_room, rows_room}
+use Rattle.job.specs.Rows.{Fits}
 use Rattle.job.proofs.room.sheet_room.Goals as goal
 
-pub loop-z-init : goal.loop-z-init
-loop-z-init c =
-    let n = c.args.n in
-    let e : n - 0 ≡ n = omega arith in
-    (omega arith, omega arith, rw e)
+fits_turn : (rows : List Row) (k : ℕ) (d : Row) → k < length rows → Every Fits (drop k rows) → Fits (get_or rows k d) × Every Fits (drop (k + 1) rows)
+fits_turn rows k d h e = rw (add-one k) (rw (drop-cons rows k d h) at e)
+
+fits_rest : (rows : List Row) (k : ℕ) → k < length rows → Every Fits (drop k rows) → Every Fits (drop (k + 1) rows)
+fits_rest rows k h e = (fits_turn rows k (record { key = 0; len = 0; count = 0; pieces = 0 }) h e).1
+
+rooms_turn : (rows : List Row) (k : ℕ) (d : Row) → k < length rows → rows_room (drop k rows) ≡ row_room (get_or rows k d) + rows_room (drop (k + 1) rows)
+unfolding rows_room
+rooms_turn rows k d h = rw (add-one k, drop-cons rows k d h)
+
+rooms_end : (rows : List Row) (k : ℕ) → length rows ≤ k → rows_room (drop k rows) ≡ 0
+unfolding rows_room
+rooms_end rows k h = rw (drop_of_length-le rows h)
+
+-- the room with that of the row at hand
+next_room : (rows : List Row) (k room part all : ℕ) (d : Row) → k < length rows → part ≡ row_room (get_or rows k d) → room + rows_room (drop k rows) ≡ all → room + part + rows_room (drop (k + 1) rows) ≡ all
+next_room rows k room part all d h p e = omega (arith, rooms_turn rows k d h)
+
+pub loop-row-init : goal.loop-row-init
+loop-row-init c = (omega arith, c.requires.1, refl)
 
 pub row_room-room-requires : goal.row_room-room-requires
-row_room-room-requires c = rw c.get_row.ensures (c.requires.2 c.loop-z.z (omega arith))
+row_room-room-requires c = (fits_turn _ _ _ c.loop-row-test.true c.loop-row.invariant.1).0
 
-pub loop-z-preserved : goal.loop-z-preserved
-loop-z-preserved c =
-    let l = c.loop-z in
-    let a = c.args in
-    let e : c.row_room-room.result ≡ row_room (row_of a.rows.now l.z) = c.row_room-room.ensures.0 ∙ rw c.get_row.ensures in
-    (omega arith, omega arith, omega (arith, rows_turn a.rows.now l.z a.n (omega arith)))
+pub loop-row-preserved : goal.loop-row-preserved
+loop-row-preserved c =
+    let l = c.loop-row in
+    let h = c.loop-row-test.true in
+    (omega (arith, c.row_room-room.ensures.1), fits_rest _ _ h l.invariant.1, next_room c.args.rows.now l.row-index l.room _ _ _ h c.row_room-room.ensures.0 l.invariant.2)
 
 pub returns : goal.returns
 returns c =
-    let l = c.loop-z in
-    let a = c.args in
-    omega (arith, rows_end a.rows.now l.z a.n (omega arith))
+    let l = c.loop-row in
+    omega (arith, rooms_end c.args.rows.now l.row-index c.loop-row-test.false, l.invariant.2)

@@ -1,20 +1,16 @@
 -- `count_cell` meets its contract: the source's two tests, asked of what was found for the row.
 -- Rests on the contracts of both.
-use Rattle.lattice.specs.Found.{clears_is, clear_is}
 use Rattle.lattice.specs.Tally.{count_cell}
 use Rattle.lattice.proofs.count.count_cell.Goals as goal
 
-pub returns-then-beside_clears : goal.returns-then-beside_clears
+pub returns-then-clears-2 : goal.returns-then-clears-2
 unfolding count_cell
-returns-then-beside_clears c =
-    rw (← clears_is c.requires.1 c.args.x c.level_clears.ensures, c.if-level_clears.true, ← clear_is c.requires.1 c.args.x c.beside_clears.ensures, c.if-beside_clears.true)
+returns-then-clears-2 c = rw (← c.clears.ensures, c.if-clears.true, ← c.clears-then-clears.ensures, c.if-clears-2.true)
 
-pub returns-then-level_clears : goal.returns-then-level_clears
+pub returns-then-clears : goal.returns-then-clears
 unfolding count_cell
-returns-then-level_clears c =
-    rw (← clears_is c.requires.1 c.args.x c.level_clears.ensures, c.if-level_clears.true, ← clear_is c.requires.1 c.args.x c.beside_clears.ensures, c.if-beside_clears.false)
+returns-then-clears c = rw (← c.clears.ensures, c.if-clears.true, ← c.clears-then-clears.ensures, c.if-clears-2.false)
 
 pub returns : goal.returns
 unfolding count_cell
-returns c =
-    rw (← clears_is c.requires.1 c.args.x c.level_clears.ensures, c.if-level_clears.false)
+returns c = rw (← c.clears.ensures, c.if-clears.false)

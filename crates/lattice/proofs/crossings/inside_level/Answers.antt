@@ -1,6 +1,6 @@
 -- `inside_level` meets its contract. The invariant: the answer is that of the holes which are left.
 -- Rests on the laws that take the ends apart ring by ring.
-use Rattle.std.proofs.Common.{not, sym, ap, ◌∙◌, le_antisymm, arith, length-take-le, rules}
+use Rattle.std.proofs.Common.{not, sym, ap, ◌∙◌, arith, length-take-le}
 use Rattle.lattice.specs.Asked.{end_next, outside_outer, inside_outer, inside_hole, outside_hole, no_hole}
 use Rattle.lattice.proofs.crossings.inside_level.Goals as goal
 
@@ -18,7 +18,6 @@ returns-then-not-odd c =
 pub loop-k-init : goal.loop-k-init
 loop-k-init c =
     let a = c.args in (
-      c.requires.some,
       (end_next c.requires 0 0 c.requires.some c.requires.ascend).2,
       inside_outer a.x a.rings a.crossings.now a.ends.now
           (sym c.odd.ensures ∙ c.if-not-odd.false),
@@ -27,13 +26,13 @@ loop-k-init c =
 pub offset_bounds-all-from : goal.offset_bounds-all-from
 offset_bounds-all-from c =
     let l = c.loop-k in
-    let n = end_next c.requires l.from l.k c.loop-k-test.true l.invariant.1 in
+    let n = end_next c.requires l.from l.k (omega arith) l.invariant.0 in
     omega (arith, n.0, n.1)
 
 pub slice_bounds-odd-count : goal.slice_bounds-odd-count
 slice_bounds-odd-count c =
     let l = c.loop-k in
-    (end_next c.requires l.from l.k c.loop-k-test.true l.invariant.1).0
+    (end_next c.requires l.from l.k (omega arith) l.invariant.0).0
 
 pub slice_bounds-odd-start : goal.slice_bounds-odd-start
 slice_bounds-odd-start c = slice_bounds-odd-count c
@@ -41,7 +40,7 @@ slice_bounds-odd-start c = slice_bounds-odd-count c
 pub slice_bounds-odd-end-in-loop-k : goal.slice_bounds-odd-end-in-loop-k
 slice_bounds-odd-end-in-loop-k c =
     let l = c.loop-k in
-    let n = end_next c.requires l.from l.k c.loop-k-test.true l.invariant.1 in
+    let n = end_next c.requires l.from l.k (omega arith) l.invariant.0 in
     omega (arith, n.1, c.told-crossings)
 
 pub returns-then-odd : goal.returns-then-odd
@@ -49,23 +48,22 @@ returns-then-odd c =
     let l = c.loop-k in
     let a = c.args in
     let e =
-    inside_hole a.x a.rings a.crossings.now a.ends.now c.requires l.from l.k c.loop-k-test.true
+    inside_hole a.x a.rings a.crossings.now a.ends.now c.requires l.from l.k (omega arith)
     (sym c.odd-in-loop-k.ensures ∙ c.if-odd.true) in
-    sym (l.invariant.2 ∙ ap not e)
+    sym (l.invariant.1 ∙ ap not e)
 
 pub loop-k-preserved : goal.loop-k-preserved
 loop-k-preserved c =
     let l = c.loop-k in
-    let h = c.loop-k-test.true in
     let a = c.args in
     let e =
-    outside_hole a.x a.rings a.crossings.now a.ends.now c.requires l.from l.k h
+    outside_hole a.x a.rings a.crossings.now a.ends.now c.requires l.from l.k (omega arith)
     (sym c.odd-in-loop-k.ensures ∙ c.if-odd.false) in
-    (search rules, (end_next c.requires l.from l.k h l.invariant.1).2, l.invariant.2 ∙ ap not e)
+    ((end_next c.requires l.from l.k (omega arith) l.invariant.0).2, l.invariant.1 ∙ ap not e)
 
 pub returns : goal.returns
 returns c =
     let l = c.loop-k in
     let a = c.args in
-    sym (l.invariant.2
-    ∙ ap not (no_hole a.x a.rings a.crossings.now a.ends.now l.from l.k (le_antisymm l.invariant.0 c.loop-k-test.false)))
+    sym (l.invariant.1
+    ∙ ap not (no_hole a.x a.rings a.crossings.now a.ends.now l.from l.k (omega arith)))

@@ -1,15 +1,13 @@
 -- `near_edges` meets its contract. The invariant: the edges written and the rings left say what the piece says.
--- Rests on the laws of the rings in turn, and on those that take a piece apart.
-use Rattle.std.proofs.Common.{◌≡◌, ◌+◌, ◌-◌, ◌≤◌, length, drop}
-use Rattle.regions.specs.Ring.{sum, rings_from, piece_of}
+-- Rests on the laws of the rings in turn.
+use Rattle.std.proofs.Common.{◌≤◌, length}
+use Rattle.regions.specs.Pieces.{rings_of, rings_left}
 use Rattle.lattice.specs.Edges.{Left}
 use Rattle.lattice.proofs.edges.near_edges.Given as goal
 
-abbrev pub invariant-loop-k : goal.invariant-loop-k
-invariant-loop-k l =
-    (l.k ≤ length l.sizes)
-    × (l.at + sum (drop l.k l.sizes) ≡ sum l.sizes)
-    × Left l.y l.reach (piece_of l.sizes l.coords) (rings_from l.at (drop l.k l.sizes) l.coords) l.m l.edges
-
-abbrev pub decreases-loop-k : goal.decreases-loop-k
-decreases-loop-k l = length l.sizes - l.k
+abbrev pub invariant-loop-ring : goal.invariant-loop-ring
+invariant-loop-ring l =
+    (goal.iterator-loop-ring).can_next l.ring-iterator
+    × (goal.iterator-loop-ring).is_finite l.ring-iterator
+    × (l.m ≤ length l.edges)
+    × Left l.y l.reach (rings_of l.site.piece) (rings_left l.ring-iterator) l.m l.edges

@@ -1,7 +1,6 @@
 -- `reach_of` meets its contract: the reach is sure by the tests, and a NaN is no number.
 -- Rests on what the tests say.
 use Rattle.laws.specs.Truth.{yes}
-use Rattle.regions.specs.Margin.{high_of_margin}
 use Rattle.lattice.specs.Far.{unsure}
 use Rattle.lattice.proofs.edges.reach_of.Goals as goal
 
@@ -17,7 +16,7 @@ returns-then-reach-margin c = λ n.
       place = c.is_modest.ensures (c.if-not-is_modest.false);
       sized = c.is_modest-2.ensures (c.if-not-is_modest-2.false);
       least = yes c.if-reach.true;
-      square = rw (high_of_margin c.args.margin c.requires) at (yes c.if-reach-margin.true);
+      square = rw (c.args.margin.high_is) at (yes c.if-reach-margin.true);
     }
 
 pub returns : goal.returns

@@ -7,20 +7,20 @@ use Rattle.lattice.proofs.escape.nearer.Goals as goal
 pub returns-then-da-db : goal.returns-then-da-db
 returns-then-da-db c =
     let a = c.args in
-    sym (key_differs a.d a.best_d _ _ _ c.total_key-da.ensures c.total_key-db.ensures c.if-da-db.true)
+    sym (key_differs a.exit.square a.best.square _ _ _ c.total_key-da.ensures c.total_key-db.ensures c.if-da-db.true)
 
 pub returns-then-xa-xb : goal.returns-then-xa-xb
 returns-then-xa-xb c =
     let a = c.args in
     sym
-    (key_same a.d a.best_d _ _ _ c.total_key-da.ensures c.total_key-db.ensures c.if-da-db.false
-    ∙ key_differs a.p.x a.best_p.x _ _ _ c.total_key-xa.ensures c.total_key-xb.ensures c.if-xa-xb.true)
+    (key_same a.exit.square a.best.square _ _ _ c.total_key-da.ensures c.total_key-db.ensures c.if-da-db.false
+    ∙ key_differs a.exit.place.x a.best.place.x _ _ _ c.total_key-xa.ensures c.total_key-xb.ensures c.if-xa-xb.true)
 
 pub returns : goal.returns
 returns c =
     let a = c.args in
     c.total_less.ensures
     ∙ sym
-    (key_same a.d a.best_d _ _ _ c.total_key-da.ensures c.total_key-db.ensures c.if-da-db.false
-    ∙ key_same a.p.x a.best_p.x _ _ _ c.total_key-xa.ensures c.total_key-xb.ensures c.if-xa-xb.false
-    ∙ key_last a.p.y a.best_p.y)
+    (key_same a.exit.square a.best.square _ _ _ c.total_key-da.ensures c.total_key-db.ensures c.if-da-db.false
+    ∙ key_same a.exit.place.x a.best.place.x _ _ _ c.total_key-xa.ensures c.total_key-xb.ensures c.if-xa-xb.false
+    ∙ key_last a.exit.place.y a.best.place.y)

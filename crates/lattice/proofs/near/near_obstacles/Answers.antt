@@ -9,23 +9,20 @@ use Rattle.lattice.proofs.near.near_obstacles.Goals as goal
 
 pub loop-k-init : goal.loop-k-init
 unfolding obstacles_near rectangles rects_from
-loop-k-init c = (search rules, search rules, search rules, refl, simp sub-zero)
-
-pub put_if-m-requires : goal.put_if-m-requires
-put_if-m-requires c = omega arith
+loop-k-init c = (refl, omega arith, refl, simp sub-zero)
 
 pub loop-k-preserved : goal.loop-k-preserved
 loop-k-preserved c =
     let l = c.loop-k in
     let a = c.args in
+    let e = a.extents in
     let n = length a.obstacles.now / 4 in
-    let f : Rectangle → Bool = λ (rect : Rectangle). near rect a.inset a.min_x a.max_x a.min_y a.max_y in (
-      search rules,
-      search rules,
+    let f : Rectangle → Bool = λ (rect : Rectangle). near rect a.inset e.min_x e.max_x e.min_y e.max_y in (
+      l.invariant.0,
       omega (arith, c.put_if-m.ensures.0),
       search rules,
-      l.invariant.4
-          ∙ filter_step f a.obstacles.now l.k n (rects_from l.out 0 l.m) _ _ c.loop-k-test.true c.obstacle-rect.ensures c.is_near-near.ensures
+      l.invariant.3
+          ∙ filter_step f a.obstacles.now l.k n (rects_from l.out 0 l.m) _ _ (omega arith) c.obstacle-rect.ensures c.is_near-near.ensures
           ∙ ap (λ (xs : List Rectangle). xs ++ filter f (rects_from a.obstacles.now (l.k + 1) (n - (l.k + 1)))) (sym c.put_if-m.ensures.1),
     )
 
@@ -33,5 +30,6 @@ pub returns : goal.returns
 returns c =
     let l = c.loop-k in
     let a = c.args in
-    let f : Rectangle → Bool = λ (rect : Rectangle). near rect a.inset a.min_x a.max_x a.min_y a.max_y in
-    (omega arith, rects_front l.out l.m (omega arith) ∙ sym (l.invariant.4 ∙ filter_end f a.obstacles.now l.k (length a.obstacles.now / 4) (rects_from l.out 0 l.m) c.loop-k-test.false))
+    let e = a.extents in
+    let f : Rectangle → Bool = λ (rect : Rectangle). near rect a.inset e.min_x e.max_x e.min_y e.max_y in
+    rects_front l.out l.m (omega arith) ∙ sym (l.invariant.3 ∙ filter_end f a.obstacles.now l.k (length a.obstacles.now / 4) (rects_from l.out 0 l.m) c.loop-k-test.false)

@@ -7,9 +7,6 @@ use Rattle.lattice.specs.Lattice.{by_anchor}
 use Rattle.lattice.specs.Nearest.{kept_put, kept_full}
 use Rattle.lattice.proofs.nearest.keep.Goals as goal
 
-pub place-k-requires : goal.place-k-requires
-place-k-requires c = (omega arith, c.requires.2)
-
 pub make_room-requires : goal.make_room-requires
 make_room-requires c =
     let among : c.place-k.result ≤ c.args.m = let a = c.args in
@@ -20,7 +17,7 @@ pub returns-then-k-cap : goal.returns-then-k-cap
 returns-then-k-cap c =
     let a = c.args in (
       omega arith,
-      cc (kept_put (by_anchor a.anchor) a.cells.now a.m a.cap c.place-k.result a.p c.requires.0 c.requires.1 c.place-k.ensures c.lesser-e.result c.lesser-e.ensures c.if-k-cap.true),
+      cc (kept_put (by_anchor a.anchor) a.cells.now a.m a.cap c.place-k.result a.p c.requires.0 c.requires.1 c.place-k.ensures c.min-e.result c.min-e.ensures c.if-k-cap.true),
     )
 
 pub returns : goal.returns

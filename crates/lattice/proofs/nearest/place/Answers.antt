@@ -15,9 +15,6 @@ loop-low-init c =
     let a = c.args in
     (omega arith, omega (arith, lead_le (by_anchor a.anchor) a.p (points a.m a.cells.now), length_points a.m a.cells.now c.requires.0), omega arith)
 
-pub loop-low-smaller-then-precedes : goal.loop-low-smaller-then-precedes
-loop-low-smaller-then-precedes c = omega arith
-
 pub loop-low-preserved-then-precedes : goal.loop-low-preserved-then-precedes
 loop-low-preserved-then-precedes c =
     let l = c.loop-low in
@@ -30,9 +27,6 @@ loop-low-preserved-then-precedes c =
     rw (points_at a.m a.cells.now mid d (omega arith) c.requires.0, ← c.cell.ensures, ← c.precedes.ensures) c.if-precedes.true in
     (l.invariant.0, lead_before (by_anchor a.anchor) a.p ps mid d n e, omega arith)
 
-pub loop-low-smaller : goal.loop-low-smaller
-loop-low-smaller c = omega arith
-
 pub loop-low-preserved : goal.loop-low-preserved
 loop-low-preserved c =
     let l = c.loop-low in
@@ -44,6 +38,3 @@ loop-low-preserved c =
     let e : is_lt (by_anchor a.anchor a.p (get_or ps mid d)) ≡ false =
     rw (points_at a.m a.cells.now mid d (omega arith) c.requires.0, ← c.cell.ensures, ← c.precedes.ensures) c.if-precedes.false in
     (omega (arith, lead_behind (by_anchor a.anchor) (linear_by a.anchor) a.p ps mid d c.requires.1 n e), l.invariant.1, l.invariant.2)
-
-pub returns : goal.returns
-returns c = omega arith

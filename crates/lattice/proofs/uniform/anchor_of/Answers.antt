@@ -5,10 +5,10 @@ use Rattle.lattice.specs.Around.{length_rectangles}
 use Rattle.lattice.specs.Uniform.{anchor_of}
 use Rattle.lattice.proofs.uniform.anchor_of.Goals as goal
 
-pub returns-then-near-eq0 : goal.returns-then-near-eq0
+pub returns-then-site-eq0 : goal.returns-then-site-eq0
 unfolding anchor_of
-returns-then-near-eq0 c = rw (length_rectangles, eq-eqb _ _ c.if-near-eq0.true)
+returns-then-site-eq0 c = rw (length_rectangles, eq-eqb _ _ c.if-site-eq0.true)
 
 pub returns : goal.returns
 unfolding anchor_of
-returns c = rw (length_rectangles, ne_eqb _ _ c.if-near-eq0.false) c.escape_obstacles.ensures
+returns c = rw (length_rectangles, ne_eqb _ _ c.if-site-eq0.false) c.escape_obstacles.ensures

@@ -1,28 +1,19 @@
--- `any_below` looks for a weight below 0. Invariant: whether there is one is whether one of those left is.
--- Rests on the laws of `any`.
-use mathlib.Core.Path.{refl, sym, ◌∙◌}
-use lib.Ieee.{Float, nan}
-use borrow.Author.Rules.{rules}
-use Rattle.laws.specs.Any.{any_step, any_end}
+-- `any_below` looks for a weight below 0.
+-- Rests on what `any` ensures of a list's items.
+use Rattle.std.proofs.Common.{◌≡◌, refl, ap, ◌∙◌, Bool, List, [], ◌∷◌, ◌||◌, rules, tests, Float}
+use Rattle.std.specs.List.{list_any}
+use Rattle.std.proofs.lemmas.Iterator.{YieldsList-from_slice}
+use Rattle.std.proofs.lemmas.Iterator.Search.{any_from_yields_List}
+use Rattle.laws.specs.Any.{any}
 use Rattle.float.specs.Ops.{◌<ᶠ◌, 0ᶠ}
 use Rattle.marks.proofs.leaves.any_below.Goals as goal
 
-pub loop-i-init : goal.loop-i-init
-loop-i-init c = (search rules, refl)
-
-pub returns-then-weights-i : goal.returns-then-weights-i
-returns-then-weights-i c =
-    let l = c.loop-i in
-    let weights = c.args.weights.now in
-    rw (← l.invariant.1, any_step (λ (w : Float). w <ᶠ 0ᶠ) weights l.i nan (search rules), c.if-weights-i.true)
-
-pub loop-i-preserved : goal.loop-i-preserved
-loop-i-preserved c =
-    let l = c.loop-i in
-    let weights = c.args.weights.now in
-    (search rules, sym (any_step (λ (w : Float). w <ᶠ 0ᶠ) weights l.i nan (search rules) ∙ rw c.if-weights-i.false) ∙ l.invariant.1)
+same : (test : Float → Bool) (xs : List Float) → list_any test xs ≡ any test xs
+unfolding any
+same test [] = refl
+same test (x ∷ xs) = ap (λ (b : Bool). test x || b) (same test xs)
 
 pub returns : goal.returns
 returns c =
-    let l = c.loop-i in
-    sym (any_end (λ (w : Float). w <ᶠ 0ᶠ) c.args.weights.now l.i (search rules)) ∙ l.invariant.1
+    let xs = c.args.weights.now in
+    any_from_yields_List (λ (w : Float). w <ᶠ 0ᶠ) _ _ _ c.any.ensures.ran (YieldsList-from_slice xs cc) (λ x b q k. search (rules, tests)) ∙ same (λ (w : Float). w <ᶠ 0ᶠ) xs

@@ -14,7 +14,7 @@ pub returns-then-is_searched : goal.returns-then-is_searched
 unfolding found_for searched poi_with_holes deeper_of
 returns-then-is_searched c =
     rw (c.if-not-left_in.false, ← c.is_searched.ensures, c.if-is_searched.true)
-    (c.deepest_point.ensures ∙ rw c.requires.2)
+    (c.deepest_point.ensures ∙ rw c.requires)
 
 pub returns : goal.returns
 unfolding found_for searched

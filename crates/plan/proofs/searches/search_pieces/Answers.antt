@@ -1,121 +1,79 @@
 -- `search_pieces` finds the deepest points. Invariant: those of the pieces left are still to be found and put.
--- Rests on what its calls ensure and one turn of a walk over pieces.
+-- Rests on one turn of a walk over pieces.
 use mathlib.Core.Path.{◌≡◌, refl, sym, ap, ◌∙◌}
-use Prim.Native.Nat.{◌*◌, ◌≤◌, ◌+◌}
+use mathlib.Core.List.{[]}
+use Prim.Native.Nat.{◌<◌}
 use native.Mathlib.Omega.{arith}
 use borrow.Author.Rules.{rules}
-use lib.ListN.{length, drop, get_or, length-drop}
-use lib.Seq.{length-sets}
-use Rattle.regions.specs.Ring.{piece_of, sum}
-use Rattle.discs.specs.Searches.{had_room}
-use Rattle.plan.specs.Found.{found_for, three_of}
-use Rattle.plan.specs.Walk.{never, rest_is, ring_inside, laid_turn, fits_turn, fits_stop, three_turn, fits_end, three_end, own_sizes, turn_to, here}
+use lib.ListN.{length, length-set}
+use Rattle.plan.specs.Found.{found_in}
+use Rattle.plan.specs.Walk.{never, length_pieces, none_left, either_ends, fits_turn, fits_stop, put_turn, no_piece, no_quota, fits_end, put_end}
 use Rattle.plan.proofs.searches.search_pieces.Goals as goal
 
 pub loop-k-init : goal.loop-k-init
-loop-k-init c = (omega arith, omega arith, omega arith, omega arith, c.requires.2, refl, c.requires.0, refl, refl)
+loop-k-init c =
+    let z = c.zip-k-items.ensures in
+    let e = c.into_iter-k-iterator.ensures.into_iter_gives in
+    let n = length_pieces c.args.pieces.rings.now c.args.pieces.sizes.now c.args.pieces.coords.now in
+    let pieces = c.zip.ensures.first in
+    let quotas = c.zip.ensures.second.0 in (
+      c.requires.0,
+      refl,
+      rw (e, z.first, n) refl,
+      rw (e, z.first, z.second, pieces) refl,
+      rw (e, z.second, pieces, quotas),
+      rw (e, z.first, z.second, pieces, quotas),
+    )
 
-pub overflow_add-b : goal.overflow_add-b
-overflow_add-b c =
-    let l = c.loop-k in
-    let a = c.args in
-    let more = c.loop-k-test.true in
-    let h = ring_inside a.rings.now a.sizes.now (drop l.c a.coords.now) l.k l.a more l.invariant.1 l.invariant.6 in
-    search rules
-
-pub slice_bounds-piece-end : goal.slice_bounds-piece-end
-slice_bounds-piece-end c =
-    let l = c.loop-k in
-    let a = c.args in
-    let more = c.loop-k-test.true in
-    let h = ring_inside a.rings.now a.sizes.now (drop l.c a.coords.now) l.k l.a more l.invariant.1 l.invariant.6 in
+pub offset_bounds-deepest-k : goal.offset_bounds-deepest-k
+offset_bounds-deepest-k c =
+    let s = c.in-Some.ensures.steps in
+    let i = c.loop-k.invariant in
+    let n = length_pieces c.args.pieces.rings.now c.args.pieces.sizes.now c.args.pieces.coords.now in
+    let fits : c.in-Some.k < length c.loop-k.deepest = omega (arith, s.0, i.1, i.2, n, c.requires.1) in
     search rules
 
 pub search_piece-found-requires : goal.search_piece-found-requires
-search_piece-found-requires c =
-    let l = c.loop-k in
-    let a = c.args in
-    let more = c.loop-k-test.true in
-    let h = here a.rings.now a.sizes.now a.coords.now l.k l.a l.c more l.invariant.1 l.invariant.6 in
-    (h.some, rw (rest_is a.coords.now l.c) h.coord, l.invariant.4)
+search_piece-found-requires c = c.loop-k.invariant.0
 
 pub returns-then-not-had_room : goal.returns-then-not-had_room
 returns-then-not-had_room c =
-    let l = c.loop-k in
-    let a = c.args in
-    let more = c.loop-k-test.true in
-    let rings = a.rings.now in
-    let sizes = a.sizes.now in
-    let coords = a.coords.now in
-    let b = l.a + get_or rings l.k 0 in
-    let own = own_sizes rings sizes coords l.k l.a l.c more in
-    let d = l.c + sum own * 2 in
-    let t = turn_to rings sizes coords l.k l.a l.c more d refl in
-    let f : c.search_piece-found.result ≡ found_for a.options a.left_in (piece_of own (drop l.c coords)) (get_or a.quotas.now l.k 0) = c.search_piece-found.ensures ∙ rw (rest_is coords l.c) in
+    let s = c.in-Some.ensures.steps in
+    let i = c.loop-k.invariant in
     let h = sym c.had_room.ensures ∙ c.if-not-had_room.true in
     record {
-      fits = sym (fits_stop rings sizes coords l.k l.a l.c b d own t a.options a.left_in a.quotas.now (omega arith) c.search_piece-found.result f h l.invariant.7);
+      fits = sym (fits_stop _ _ _ s.1.0 c.args.options c.args.left_in _ _ _ s.1.1 c.search_piece-found.result c.search_piece-found.ensures h i.4);
       put = λ e. absurd (never e);
     }
 
-pub put_deepest-requires : goal.put_deepest-requires
-put_deepest-requires c = omega arith
-
-pub coords_in-c-requires : goal.coords_in-c-requires
-coords_in-c-requires c =
-    let l = c.loop-k in
-    let a = c.args in
-    let more = c.loop-k-test.true in
-    rw (rest_is a.coords.now l.c) (here a.rings.now a.sizes.now a.coords.now l.k l.a l.c more l.invariant.1 l.invariant.6).coord
-
-pub overflow_add-c : goal.overflow_add-c
-overflow_add-c c =
-    let l = c.loop-k in
-    let a = c.args in
-    let more = c.loop-k-test.true in
-    let h = here a.rings.now a.sizes.now a.coords.now l.k l.a l.c more l.invariant.1 l.invariant.6 in
-    let m : l.c + c.coords_in-c.result ≤ length a.coords.now = omega (arith, h.coord, c.coords_in-c.ensures, length-drop l.c a.coords.now) in
-    record { fits = omega (arith, m, c.well_formed.1.1.1.1.0.0) }
-
-pub overflow_add-at : goal.overflow_add-at
-overflow_add-at c = record { fits = omega (arith, c.loop-k.invariant.3, c.loop-k.invariant.5, c.loop-k-test.true, c.requires.3, c.well_formed.1.1.1.1.1.1.1.0.0) }
+pub bounds-deepest-k : goal.bounds-deepest-k
+bounds-deepest-k c =
+    let s = c.in-Some.ensures.steps in
+    let i = c.loop-k.invariant in
+    let n = length_pieces c.args.pieces.rings.now c.args.pieces.sizes.now c.args.pieces.coords.now in
+    omega (arith, s.0, i.1, i.2, n, c.requires.1)
 
 pub loop-k-preserved : goal.loop-k-preserved
 loop-k-preserved c =
+    let s = c.in-Some.ensures.steps in
     let l = c.loop-k in
+    let i = l.invariant in
     let a = c.args in
-    let more = c.loop-k-test.true in
-    let rings = a.rings.now in
-    let sizes = a.sizes.now in
-    let coords = a.coords.now in
-    let b = l.a + get_or rings l.k 0 in
-    let own = own_sizes rings sizes coords l.k l.a l.c more in
-    let d = l.c + c.coords_in-c.result in
-    let t = turn_to rings sizes coords l.k l.a l.c more d (ap (λ n. l.c + n) c.coords_in-c.ensures) in
-    let m = laid_turn rings sizes coords l.k l.a l.c b d own t l.invariant.6 l.invariant.1 in
     let found = c.search_piece-found.result in
-    let f : found ≡ found_for a.options a.left_in (piece_of own (drop l.c coords)) (get_or a.quotas.now l.k 0) = c.search_piece-found.ensures ∙ rw (rest_is coords l.c) in
-    let h = sym c.had_room.ensures ∙ c.if-not-had_room.false in
-    let put = c.put_deepest.ensures in (
-      omega arith,
-      m.0.ring,
-      omega (arith, m.0.coord, c.coords_in-c.ensures, length-drop l.c coords),
-      omega arith,
-      search rules,
-      rw put (length-sets l.deepest l.at (three_of found) ∙ l.invariant.5),
-      m.1,
-      fits_turn rings sizes coords l.k l.a l.c b d own t a.options a.left_in a.quotas.now (omega arith) found f h l.invariant.7,
-      rw put (three_turn rings sizes coords l.k l.a l.c b d own t a.options a.left_in a.quotas.now (omega arith) found f l.deepest l.at l.invariant.8),
+    let h = sym c.had_room.ensures ∙ c.if-not-had_room.false in (
+      omega (arith, c.search_piece-found.auto.cells, i.0),
+      length-set l.deepest c.in-Some.k found ∙ i.1,
+      s.0.0 ∙ i.2,
+      omega (arith, s.0.1.2, ap length s.1.0, i.3),
+      fits_turn _ _ _ s.1.0 a.options a.left_in _ _ _ s.1.1 found c.search_piece-found.ensures h i.4,
+      put_turn _ _ _ s.1.0 a.options a.left_in _ _ _ s.1.1 found c.search_piece-found.ensures l.deepest c.in-Some.k _ _ s.0.1.1 s.0.1.2 i.5,
     )
 
 pub returns : goal.returns
 returns c =
-    let l = c.loop-k in
+    let i = c.loop-k.invariant in
     let a = c.args in
-    let sizes = drop l.a a.sizes.now in
-    let coords = drop l.c a.coords.now in
-    let quotas = drop l.k a.quotas.now in
-    record {
-      fits = sym (fits_end a.options a.left_in a.rings.now sizes coords quotas l.k (omega arith) l.invariant.7);
-      put = λ e. sym (three_end a.options a.left_in a.rings.now sizes coords quotas l.k (omega arith) l.deepest l.at l.invariant.8);
-    }
+    let e : found_in a.options a.left_in _ _ ≡ [] =
+    either_ends (λ u p. no_piece a.options a.left_in _ _ (none_left _ (omega (arith, i.2, i.3, p))))
+    (λ u p. either_ends (λ v q. no_piece a.options a.left_in _ _ q.0) (λ v q. no_quota a.options a.left_in _ _ (none_left _ q.0)) p) c.in-None.ensures.steps in
+    record { fits = sym (fits_end _ e i.4); put = λ t. sym (put_end _ _ _ e i.5) }

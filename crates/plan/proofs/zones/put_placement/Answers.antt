@@ -1,5 +1,6 @@
 -- `put_placement` writes a zone's bytes.
 -- Rests on what its calls ensure, and on the bytes of a zone.
+use mathlib.Core.Path.{refl}
 use Prim.Native.Nat.{◌*◌}
 use native.Mathlib.Omega.{arith}
 use lib.Seq.{length-sets}
@@ -7,14 +8,22 @@ use Rattle.plan.specs.Rows.{length_cut}
 use Rattle.plan.specs.Bytes.{placement_put}
 use Rattle.plan.proofs.zones.put_placement.Goals as goal
 
+pub put_zone-from-requires : goal.put_zone-from-requires
+put_zone-from-requires c =
+    let a = c.args in
+    rw (c.part.ensures, length_cut a.row.key a.row.len a.s.now c.requires.1) (omega (arith, c.requires.0))
+
 pub put_spots-requires : goal.put_spots-requires
 put_spots-requires c =
     let a = c.args in
-    rw (c.floats_at.ensures, length_cut 0 (a.placed * 2) a.spots.now (omega (arith, c.requires.3)), c.put_zone-from.ensures.1)
-    (simp length-sets (omega (arith, c.put_zone-from.ensures.0, c.requires.0)))
+    let from = rw (c.part.ensures, length_cut a.row.key a.row.len a.s.now c.requires.1) at c.put_zone-from.ensures.0 in
+    rw (length_cut 0 (a.placed * 2) a.spots.now (omega (arith, c.requires.3)), c.put_zone-from.ensures.1)
+    (simp length-sets (omega (arith, from, c.requires.0)))
 
 pub returns : goal.returns
 returns c =
     let a = c.args in
     let p = c.requires in
-    placement_put a.s.now a.row a.placed a.spots.now p.1 p.3 a.sheet.now _ _ a.at _ _ c.put_zone-from.ensures.0 c.put_zone-from.ensures.1 c.floats_at.ensures c.put_spots.ensures
+    let k = c.part.ensures in
+    let z = c.put_zone-from.ensures in
+    placement_put a.s.now a.row a.placed a.spots.now p.1 p.3 a.sheet.now _ _ a.at _ _ (rw (k, length_cut a.row.key a.row.len a.s.now p.1) at z.0) (rw k at z.1) refl c.put_spots.ensures

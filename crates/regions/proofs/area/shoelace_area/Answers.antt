@@ -17,9 +17,9 @@ loop-i-init c = search rules
 
 pub loop-i-preserved : goal.loop-i-preserved
 unfolding area_after
-loop-i-preserved c = (search rules, search rules, rw add-one (cc))
+loop-i-preserved c = (search rules, rw add-one (cc))
 
 pub returns : goal.returns
 unfolding shoelace_area
 returns c =
-    rw (le-ltb _ _ c.if-n-lt3.false) (cc (le_antisymm c.loop-i.invariant.0 c.loop-i-test.false))
+    rw (le-ltb _ _ c.if-n-lt3.false) (cc (le_antisymm c.loop-i.auto.i-end c.loop-i-test.false))

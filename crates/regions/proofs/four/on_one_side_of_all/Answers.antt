@@ -14,7 +14,7 @@ use Rattle.regions.proofs.four.on_one_side_of_all.Goals as goal
 each : (a b c d : Bool) → T (a && b && c && d) → T a × T b × T c × T d
 each a b c d t = (and_l a b (and_l (a && b) c (and_l (a && b && c) d t)), and_r a b (and_l (a && b) c (and_l (a && b && c) d t)), and_r (a && b) c (and_l (a && b && c) d t), and_r (a && b && c) d t)
 
-module _ (ys : Four) (yi yj : Float) where
+module _ (ys : Four Float) (yi yj : Float) where
   abbrev level : Float → Bool
   level y = beq (yi >ᶠ y) (yj >ᶠ y)
 

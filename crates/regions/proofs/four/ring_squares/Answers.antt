@@ -14,12 +14,12 @@ returns-then-n-lt2 c k = rw (lt-ltb _ _ c.if-n-lt2.true)
 
 pub loop-i-init : goal.loop-i-init
 unfolding least_after
-loop-i-init c = (search rules, search rules, λ k. refl)
+loop-i-init c = (search rules, λ k. refl)
 
 pub loop-i-preserved : goal.loop-i-preserved
 unfolding least_after
-loop-i-preserved c = (search rules, search rules, λ k. rw add-one (cc (c.nearer-best.ensures k, c.loop-i.invariant.2 k)))
+loop-i-preserved c = (search rules, λ k. rw add-one (cc (c.nearer-best.ensures k, c.loop-i.invariant.1 k)))
 
 pub returns : goal.returns
 unfolding least_of_ring
-returns c k = rw (le-ltb _ _ c.if-n-lt2.false) (cc (c.loop-i.invariant.2 k, le_antisymm c.loop-i.invariant.0 c.loop-i-test.false))
+returns c k = rw (le-ltb _ _ c.if-n-lt2.false) (cc (c.loop-i.invariant.1 k, le_antisymm c.loop-i.auto.i-end c.loop-i-test.false))

@@ -1,6 +1,6 @@
 -- `turned_all` meets its contract: an edge taken into account for each of four places, or passed over for all.
 -- Rests on the law of an edge on one side.
-use Rattle.regions.specs.Four.{first, second, third, fourth, at, told}
+use Rattle.regions.specs.Four.{first, second, third, fourth, at}
 use Rattle.regions.specs.Inside.{flip}
 use Rattle.regions.specs.Sides.{same_side}
 use Rattle.regions.proofs.four.turned_all.Goals as goal
@@ -10,7 +10,7 @@ unfolding flip
 returns-then-on_one_side_of_all c k = let a = c.args in rw (same_side (at k a.xs) (at k a.ys) a.xi a.yi a.xj a.yj (c.on_one_side_of_all.ensures c.if-on_one_side_of_all.true k))
 
 pub returns : goal.returns
-unfolding at told
+unfolding at
 returns c first = c.turned_by.ensures
 returns c second = c.turned_by-2.ensures
 returns c third = c.turned_by-3.ensures

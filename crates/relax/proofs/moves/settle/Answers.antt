@@ -1,17 +1,17 @@
 -- `settle` meets its contract, by the move's two cases.
 -- Rests on the law of a mark written to a list.
-use native.Mathlib.Omega.{arith}
+use Rattle.std.proofs.Common.{arith}
 use Rattle.laws.specs.Lists.{map_set}
 use Rattle.glyphs.specs.Spots.{spots_put}
 use Rattle.relax.specs.Moves.{settled, told_of}
 use Rattle.relax.proofs.moves.settle.Goals as goal
 
-pub returns-in_default : goal.returns-in_default
+pub returns-in_default-clause-moved : goal.returns-in_default-clause-moved
 unfolding settled told_of
-returns-in_default c = rw c.in_default.is
+returns-in_default-clause-moved c = rw c.in_default.is
 
-pub returns : goal.returns
+pub returns-clause-moved : goal.returns-clause-moved
 unfolding settled told_of
-returns c =
-    let a = c.args in
-    rw (c.in-To.is, c.put_spot.ensures, spots_put a.spots.now a.i _ (omega arith), map_set)
+returns-clause-moved c =
+    let w = c.args.marks.now in
+    rw (c.in-Some.is, c.put_spot.ensures, spots_put w.spots.now c.args.i _ (omega (arith, w.pairs, w.flags)), map_set)

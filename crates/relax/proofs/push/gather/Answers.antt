@@ -1,6 +1,6 @@
 -- `gather` meets its contract. The invariant: the list's first push as those before it did and then the first k marks.
 -- Rests on the law of a mark gathered, and on a fold's next element.
-use mathlib.Core.Path.{◌≡◌, refl, sym, ap, ◌∙◌}
+use mathlib.Core.Path.{◌≡◌, sym, ap, ◌∙◌}
 use mathlib.Core.Bool.{Bool, not}
 use mathlib.Core.List.{List, foldl}
 use Prim.Native.Nat.{◌≤◌, ◌<◌, ◌+◌, ◌/◌}
@@ -18,15 +18,6 @@ use Rattle.relax.specs.Field.{push_of}
 use Rattle.relax.specs.Others.{gathered}
 use Rattle.relax.proofs.push.gather.Goals as goal
 
-pub loop-k-init : goal.loop-k-init
-loop-k-init c = (search rules, search rules, omega arith, refl, λ f. refl)
-
-pub put_spot-requires : goal.put_spot-requires
-put_spot-requires c = omega arith
-
-pub overflow_add-count : goal.overflow_add-count
-overflow_add-count c = omega (arith, flag_le (not c.apart-far.result))
-
 pub loop-k-preserved : goal.loop-k-preserved
 loop-k-preserved c =
     let l = c.loop-k in
@@ -39,8 +30,6 @@ loop-k-preserved c =
     let many : l.count < length (spots_of l.near) = simp length_spots room in
     let more : l.k < length s = simp length_spots (omega arith) in
     let at : get_or s l.k q ≡ q = spots_at_lem a.spots.now l.k q (omega arith) ∙ sym c.spot-q.ensures in (
-      search rules,
-      search rules,
       omega (arith, flag_le (not c.apart-far.result)),
       search rules,
       λ (f : Force).
@@ -48,7 +37,7 @@ loop-k-preserved c =
           ap (λ (t : List Point). foldl g f (take (l.count + bool_byte (not c.apart-far.result)) t)) (ap spots_of put.ensures ∙ spots_put l.near l.count q room)
           ∙ ap (λ (b : Bool). foldl g f (take (l.count + bool_byte (not b)) (set (spots_of l.near) l.count q))) c.apart-far.ensures
           ∙ gathered a.influence a.p (spots_of l.near) l.count q f many
-          ∙ ap (λ (x : Force). g x q) (l.invariant.4 f)
+          ∙ ap (λ (x : Force). g x q) (l.invariant.2 f)
           ∙ sym (fold_next g start s l.k q more ∙ ap (g (foldl g start (take l.k s))) at),
     )
 
@@ -58,4 +47,4 @@ returns c =
     let a = c.args in
     let s = spots_of a.spots.now in
     let all : length s ≤ l.k = simp length_spots (omega arith) in
-    (omega arith, l.invariant.3, λ (f : Force). l.invariant.4 f ∙ ap (foldl (push_of a.influence a.p) (foldl (push_of a.influence a.p) f (take a.m (spots_of a.near.now)))) (take_all l.k s all))
+    (omega arith, l.invariant.1, λ (f : Force). l.invariant.2 f ∙ ap (foldl (push_of a.influence a.p) (foldl (push_of a.influence a.p) f (take a.m (spots_of a.near.now)))) (take_all l.k s all))

@@ -1,53 +1,45 @@
 -- `push_few` meets its contract: the marks before mark i and those after it that are near enough, gathered, push as all do.
 -- Rests on the contracts of what it calls.
-use mathlib.Core.Path.{◌≡◌, sym, ap, ◌∙◌}
+use Rattle.std.proofs.Common.{◌≡◌, ℕ, ◌+◌, ◌*◌, ◌/◌, ◌<◌, ◌≤◌, ◌-◌, List, Float, length, take, drop, length-take, length-drop, length-take-le, sym, ap, ◌∙◌, arith}
 use mathlib.Core.List.{foldl}
-use Prim.Native.Nat.{◌+◌, ◌-◌, ◌*◌, ◌/◌, ◌≤◌}
-use native.Mathlib.Omega.{arith}
-use native.Mathlib.Nat.{le_trans, le_of_eq}
-use lib.ListN.{length, take, length-take, length-drop}
-use lib.Seq.{length-take-le}
 use Rattle.glyphs.specs.declared.rect.Point.{Point}
 use Rattle.glyphs.specs.Spots.{spots_of, spots_take, length_spots}
 use Rattle.relax.specs.declared.push.Force.{Force}
 use Rattle.relax.specs.Field.{push_of, no_force}
 use Rattle.relax.proofs.push.push_few.Goals as goal
 
+-- how many marks stand before mark i, and after it
+before : (spots part : List Float) (i : ℕ) → spots_of part ≡ take i (spots_of spots) → length part / 2 ≤ i
+before spots part i e =
+    let n : length part / 2 ≡ length (take i (spots_of spots)) = sym (length_spots part) ∙ ap length e in
+    rw n (simp length-take (omega arith))
+
+after : (spots part : List Float) (i : ℕ) → spots_of part ≡ drop (i + 1) (spots_of spots) → i < length spots / 2 → length part / 2 + (i + 1) ≤ length spots / 2
+after spots part i e h =
+    let n : length part / 2 ≡ length spots / 2 - (i + 1) = sym (length_spots part) ∙ ap length e ∙ simp (length-drop, length_spots) in
+    omega (arith, n)
+
 pub gather-before-requires : goal.gather-before-requires
-gather-before-requires c =
-    let before : length c.spots_before.result.now / 2 ≤ c.args.i = le_trans (le_of_eq (sym (length_spots c.spots_before.result.now) ∙ ap length c.spots_before.ensures)) (simp length-take (omega arith)) in
-    omega (arith, before)
+gather-before-requires c = omega (arith, before c.args.spots.now _ c.args.i c.spots_before.ensures)
 
 pub gather-all-requires : goal.gather-all-requires
 gather-all-requires c =
-    let before : length c.spots_before.result.now / 2 ≤ c.args.i = le_trans (le_of_eq (sym (length_spots c.spots_before.result.now) ∙ ap length c.spots_before.ensures)) (simp length-take (omega arith)) in
-    let after : let a = c.args in
-    length c.spots_after.result.now / 2 + (a.i + 1) ≤ length a.spots.now / 2 = let a = c.args in
-    let e : length c.spots_after.result.now / 2 ≡ length a.spots.now / 2 - (a.i + 1) =
-    sym (length_spots c.spots_after.result.now) ∙ ap length c.spots_after.ensures ∙ simp (length-drop, length_spots) in
-    omega (arith, e) in
-    omega (arith, before, after, c.gather-before.ensures.0, c.gather-before.ensures.1)
+    let b = before c.args.spots.now _ c.args.i c.spots_before.ensures in
+    let a = after c.args.spots.now _ c.args.i c.spots_after.ensures c.requires.0 in
+    omega (arith, b, a, c.gather-before.ensures.0, c.gather-before.ensures.1)
 
 pub slice_bounds-near-end : goal.slice_bounds-near-end
 slice_bounds-near-end c =
-    let before : length c.spots_before.result.now / 2 ≤ c.args.i = le_trans (le_of_eq (sym (length_spots c.spots_before.result.now) ∙ ap length c.spots_before.ensures)) (simp length-take (omega arith)) in
-    let after : let a = c.args in
-    length c.spots_after.result.now / 2 + (a.i + 1) ≤ length a.spots.now / 2 = let a = c.args in
-    let e : length c.spots_after.result.now / 2 ≡ length a.spots.now / 2 - (a.i + 1) =
-    sym (length_spots c.spots_after.result.now) ∙ ap length c.spots_after.ensures ∙ simp (length-drop, length_spots) in
-    omega (arith, e) in
-    let room : c.gather-all.result * 2 ≤ length c.gather-all.new.near = omega (arith, before, after, c.gather-before.ensures.0, c.gather-before.ensures.1, c.gather-all.ensures.0, c.gather-all.ensures.1) in
-    room
+    let b = before c.args.spots.now _ c.args.i c.spots_before.ensures in
+    let a = after c.args.spots.now _ c.args.i c.spots_after.ensures c.requires.0 in
+    omega (arith, b, a, c.gather-before.ensures.0, c.gather-before.ensures.1, c.gather-all.ensures.0, c.gather-all.ensures.1)
 
 pub slice_bounds-push_near-end : goal.slice_bounds-push_near-end
 slice_bounds-push_near-end c =
-    let before : length c.spots_before.result.now / 2 ≤ c.args.i = le_trans (le_of_eq (sym (length_spots c.spots_before.result.now) ∙ ap length c.spots_before.ensures)) (simp length-take (omega arith)) in
-    let after : let a = c.args in
-    length c.spots_after.result.now / 2 + (a.i + 1) ≤ length a.spots.now / 2 = let a = c.args in
-    let e : length c.spots_after.result.now / 2 ≡ length a.spots.now / 2 - (a.i + 1) =
-    sym (length_spots c.spots_after.result.now) ∙ ap length c.spots_after.ensures ∙ simp (length-drop, length_spots) in
-    omega (arith, e) in
-    let room : c.gather-all.result * 2 ≤ length c.gather-all.new.near = omega (arith, before, after, c.gather-before.ensures.0, c.gather-before.ensures.1, c.gather-all.ensures.0, c.gather-all.ensures.1) in
+    let b = before c.args.spots.now _ c.args.i c.spots_before.ensures in
+    let a = after c.args.spots.now _ c.args.i c.spots_after.ensures c.requires.0 in
+    let room : c.gather-all.result * 2 ≤ length c.gather-all.new.near =
+    omega (arith, b, a, c.gather-before.ensures.0, c.gather-before.ensures.1, c.gather-all.ensures.0, c.gather-all.ensures.1) in
     sym (length-take-le _ _ room)
 
 pub returns : goal.returns

@@ -1,37 +1,28 @@
 -- `push_others` meets its contract: the marks before mark i push, then those after it.
 -- Rests on the law that these are all others.
-use mathlib.Core.Path.{◌≡◌, sym, ◌∙◌}
+use Rattle.std.proofs.Common.{◌≡◌, ℕ, ◌+◌, ◌/◌, ◌<◌, List, Float, length, take, drop, sym, ◌∙◌}
 use mathlib.Core.List.{foldl}
-use Prim.Native.Nat.{◌+◌, ◌<◌}
-use native.Mathlib.Omega.{arith}
-use lib.ListN.{length, take, drop}
-use Rattle.glyphs.specs.Spots.{spots_of, spots_at_lem, length_spots}
+use Rattle.glyphs.specs.declared.rect.Point.{Point}
+use Rattle.glyphs.specs.Spots.{spot_at, spots_of, spots_at_lem, length_spots}
 use Rattle.relax.specs.Field.{at, no_force, push_of, pushes}
 use Rattle.relax.specs.Others.{push_others}
 use Rattle.relax.proofs.push.push_others.Goals as goal
 
+others :
+    (influence : Float) (i : ℕ) (spots : List Float) (p : Point) → i < length spots / 2 → p ≡ spot_at spots i
+    → pushes influence i (at (spots_of spots) i) 0 (spots_of spots) no_force
+    ≡ foldl (push_of influence p) (foldl (push_of influence p) no_force (take i (spots_of spots))) (drop (i + 1) (spots_of spots))
+others influence i spots p h e =
+    let n : i < length (spots_of spots) = simp length_spots h in
+    let q : at (spots_of spots) i ≡ p = rw (spots_at_lem spots i _ h, e) in
+    rw q (push_others influence p i (spots_of spots) no_force n)
+
 pub returns-then-spots-le64 : goal.returns-then-spots-le64
 returns-then-spots-le64 c =
-    let others : let a = c.args in
-    let s = spots_of a.spots.now in
-    let p = c.spot-p.result in
-    pushes a.influence a.i (at s a.i) 0 s no_force
-    ≡ foldl (push_of a.influence p) (foldl (push_of a.influence p) no_force (take a.i s)) (drop (a.i + 1) s) = let a = c.args in
-    let s = spots_of a.spots.now in
-    let h : a.i < length s = simp length_spots (omega arith) in
-    let p : at s a.i ≡ c.spot-p.result = rw (spots_at_lem a.spots.now a.i _ (omega arith), c.spot-p.ensures) in
-    rw p (push_others a.influence c.spot-p.result a.i s no_force h) in
-    c.push_few.ensures ∙ sym others
+    let a = c.args in
+    c.push_few.ensures ∙ sym (others a.influence a.i a.spots.now c.spot-p.result c.requires c.spot-p.ensures)
 
 pub returns : goal.returns
 returns c =
-    let others : let a = c.args in
-    let s = spots_of a.spots.now in
-    let p = c.spot-p.result in
-    pushes a.influence a.i (at s a.i) 0 s no_force
-    ≡ foldl (push_of a.influence p) (foldl (push_of a.influence p) no_force (take a.i s)) (drop (a.i + 1) s) = let a = c.args in
-    let s = spots_of a.spots.now in
-    let h : a.i < length s = simp length_spots (omega arith) in
-    let p : at s a.i ≡ c.spot-p.result = rw (spots_at_lem a.spots.now a.i _ (omega arith), c.spot-p.ensures) in
-    rw p (push_others a.influence c.spot-p.result a.i s no_force h) in
-    rw others (cc)
+    let a = c.args in
+    rw (others a.influence a.i a.spots.now c.spot-p.result c.requires c.spot-p.ensures) (cc)

@@ -4,38 +4,38 @@ use mathlib.Core.Path.{◌≡◌, sym, ap, ◌∙◌}
 use mathlib.Core.List.{List}
 use borrow.Author.Rules.{rules}
 use lib.ListN.{length}
-use lib.Seq.{length-take-le}
 use Rattle.laws.specs.Lists.{written}
-use Rattle.glyphs.specs.declared.bounds.Bounds.TheVariants.{Nothing}
+use Rattle.std.specs.Prelude.{None}
 use Rattle.glyphs.specs.declared.rect.Point.{Point}
 use Rattle.glyphs.specs.Rect.{rectangles}
 use Rattle.glyphs.specs.Spots.{flat}
-use Rattle.regions.specs.Ring.{piece_of}
-use Rattle.scatter.specs.Passes.{no_marks, unbounded, scatter_is}
+use Rattle.regions.specs.Pieces.{rings_of}
+use Rattle.scatter.specs.LowDiscrepancy.{pack_scatter}
+use Rattle.scatter.specs.Passes.{no_marks, unbounded, scatter_at}
+use Rattle.scatter.specs.Sites.{Boxed}
 use Rattle.scatter.proofs.low.pack_low_discrepancy_piece.Goals as goal
 
 pub returns-then-n-eq0 : goal.returns-then-n-eq0
 unfolding written flat
 returns-then-n-eq0 c =
     let a = c.args in
-    let e = sym (no_marks a.anchor (piece_of a.sizes.now a.coords.now) a.n a.ctx (rectangles a.obstacles.now) c.if-n-eq0.true) in
+    let e = sym (no_marks a.anchor (rings_of a.piece) a.n a.ctx (rectangles a.obstacles.now) c.if-n-eq0.true) in
     (ap length e, ap (λ (ps : List Point). written (flat ps) a.spots.now) e)
 
 pub returns-in_default : goal.returns-in_default
 unfolding written flat
 returns-in_default c =
     let a = c.args in
-    let none : c.piece_bounds-bounds.result ≡ Nothing = search rules in
-    let e = sym (unbounded a.anchor (piece_of a.sizes.now a.coords.now) a.n a.ctx (rectangles a.obstacles.now) c.if-n-eq0.false (sym c.piece_bounds-bounds.ensures ∙ none)) in
+    let none : c.piece_bounds.result ≡ None = search rules in
+    let e = sym (unbounded a.anchor (rings_of a.piece) a.n a.ctx (rectangles a.obstacles.now) c.if-n-eq0.false (sym c.piece_bounds.ensures ∙ none)) in
     (ap length e, ap (λ (ps : List Point). written (flat ps) a.spots.now) e)
-
-pub slice_bounds-local-end-2 : goal.slice_bounds-local-end-2
-slice_bounds-local-end-2 c = sym (length-take-le _ _ c.near_obstacles-m.ensures.0)
 
 pub returns : goal.returns
 returns c =
     let a = c.args in
-    let e =
-    scatter_is a.anchor (piece_of a.sizes.now a.coords.now) a.n a.ctx (rectangles a.obstacles.now) c.if-n-eq0.false c.in-Box.min_x c.in-Box.max_x c.in-Box.min_y c.in-Box.max_y
-    (sym c.piece_bounds-bounds.ensures ∙ c.in-Box.is) _ _ c.inset-inset.ensures c.near_obstacles-m.ensures.1 in
-    (c.passes.ensures.0 ∙ ap length e, c.passes.ensures.1 ∙ ap (λ (ps : List Point). written (flat ps) a.spots.now) e)
+    let s = c.of.result in
+    let e = c.of.ensures in
+    let near = rectangles a.obstacles.now in
+    let boxed : Boxed s = rw (e.piece, e.extents) (sym c.piece_bounds.ensures ∙ c.in-Some.is) in
+    let same : pack_scatter a.anchor (rings_of s.piece) s.n s.ctx near ≡ pack_scatter a.anchor (rings_of a.piece) a.n a.ctx near = rw (e.piece, e.n, e.ctx) in
+    rw (scatter_at s a.anchor near (rw e.n c.if-n-eq0.false) boxed e.near, same) at c.passes.ensures

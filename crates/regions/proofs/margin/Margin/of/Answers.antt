@@ -1,8 +1,7 @@
--- `Margin::of` meets its contract.
+-- `Margin::of` meets its contract: there is but one margin of a clearance.
 -- Rests on the contracts of `low_square` and `high_square`.
-use Rattle.regions.specs.Margin.{margin_of}
+use Rattle.regions.specs.Margins.{own_margin}
 use Rattle.regions.proofs.margin.Margin.of.Goals as goal
 
 pub returns : goal.returns
-unfolding margin_of
-returns c = cc
+returns c = own_margin _

@@ -3,21 +3,15 @@
 use mathlib.Core.Path.{◌≡◌, ap, ◌∙◌}
 use mathlib.Core.Bool.{Bool, true, false, not}
 use Rattle.glyphs.specs.Rect.{rectangles, clear_of_obstacles}
-use Rattle.regions.specs.Margin.{least_of_margin, margin_own}
+use Rattle.regions.specs.Margins.{least_of_margin}
 use Rattle.relax.proofs.field.Field.clear_if.Goals as goal
 
 twice-not : {r : Bool} (b : Bool) → r ≡ b → r ≡ not (not b)
 twice-not true h = h
 twice-not false h = h
 
-pub clears_obstacles-requires : goal.clears_obstacles-requires
-clears_obstacles-requires c = margin_own _ _ c.requires.0
-
 pub returns-then-honoring : goal.returns-then-honoring
 returns-then-honoring c =
     let a = c.args in
-    let e = ap (clear_of_obstacles a.place.x a.place.y (rectangles a.obstacles.now)) (least_of_margin a.self.margin a.self.inset c.requires.0) in
+    let e = ap (clear_of_obstacles a.place.x a.place.y (rectangles a.self.now.obstacles.now)) (least_of_margin _ _ a.self.now.inset_margin) in
     rw c.if-honoring.true (twice-not _ (c.clears_obstacles.ensures ∙ e))
-
-pub returns : goal.returns
-returns c = rw c.if-honoring.false

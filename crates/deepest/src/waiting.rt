@@ -1,0 +1,71 @@
+// The cells that wait: a heap in the first `len` places of a lent slice, with how many have entered so far.
+ghost use Rattle.deepest.specs.Queue.{Queue};
+
+use crate::queue::{Cell, pop, push};
+
+#[derive(Drop)]
+pub struct Waiting<'a> {
+    pub cells: &'a mut [f64],
+    pub halves: &'a [f64],
+    pub len: usize,
+    pub entered: u64,
+    pub ghost heap: { Queue halves.now cells.now len },
+}
+
+// More cells would wait than there is room for.
+#[derive(Clone, Copy)]
+pub struct NoRoom;
+
+impl<'a> Waiting<'a> {
+    ghost use Rattle.std.specs.Prelude.{◌≡◌, ◌+◌, ◌-◌, ◌*◌, ◌/◌, ◌<◌, ◌≤◌, length};
+    ghost use Rattle.deepest.specs.Waiting.{Starts, Enters, Leaves};
+
+    pub fn new(cells: &'a mut [f64], halves: &'a [f64]) -> Waiting<'a>
+        ensures { Starts cells.old halves.now result }
+    {
+        Waiting {
+            cells,
+            halves,
+            len: 0,
+            entered: 0,
+        }
+    }
+
+    // How many cells more there is room for.
+    pub fn room(&self) -> usize
+        ensures places { result ≡ length self.now.cells.now / 5 - self.now.len }
+        ensures few { self.now.len + result < 4611686018427387904 }
+    {
+        self.cells.len() / 5 - self.len
+    }
+
+    // Makes a cell and puts it among those that wait.
+    pub fn push(&mut self, x: f64, y: f64, d: f64, halvings: u64)
+        requires room { self.old.len * 5 + 4 < length self.old.cells.now }
+        requires few { halvings < 22 }
+        requires early { self.old.entered < 4611686018427387904 }
+        ensures { Enters self.old x y d halvings self.new }
+    {
+        let cell = Cell {
+            x,
+            y,
+            d,
+            halvings,
+            entry: self.entered,
+        };
+        push(&mut self.cells[..], self.len, self.halves, cell);
+        self.len += 1;
+        self.entered += 1;
+    }
+
+    // Takes out the cell that leaves first.
+    pub fn pop(&mut self) -> Option<Cell>
+        ensures { Leaves self.old result self.new }
+    {
+        if self.len == 0 {
+            return None;
+        }
+        self.len -= 1;
+        Some(pop(&mut self.cells[..], self.len + 1, self.halves))
+    }
+}

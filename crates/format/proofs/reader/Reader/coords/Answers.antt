@@ -1,0 +1,51 @@
+-- `coords` reads coordinates one after the other. Invariant: those left are at the place come to, and are still to be put.
+-- Rests on what `coord` ensures and one turn of a run.
+use mathlib.Core.Path.{◌≡◌, refl, sym, ◌∙◌}
+use native.Mathlib.Omega.{arith}
+use Prim.Native.Nat.{◌-◌, ◌<◌}
+use lib.ListN.{length}
+use Rattle.format.specs.Refusals.{number_of}
+use Rattle.format.specs.Numbers.{coord_in, coord_at, next_coord}
+use Rattle.format.specs.RowLaws.{faults_turn, faults_end, each_turn, each_end}
+use Rattle.format.specs.RefusalLaws.{stopped}
+use Rattle.format.specs.NumberLaws.{room_turn, coord_inside}
+use Rattle.format.proofs.reader.Reader.coords.Goals as goal
+
+pub loop-i-init : goal.loop-i-init
+loop-i-init g c =
+    let e : c.args.n - 0 ≡ c.args.n = omega arith in
+    (refl, omega arith, rw e c.requires, rw e, rw e)
+
+pub returns-in_err-coord-clause-fault : goal.returns-in_err-coord-clause-fault
+returns-in_err-coord-clause-fault g c =
+    let l = c.loop-i in
+    let s = c.args.self.now.bytes.now in
+    stopped next_coord (coord_in s (number_of c.args.refusal)) _ _ c.args.n l._i l.self.at (omega arith) (rw l.invariant.0 at c.in_err-coord.ensures.fault) l.invariant.3 c.from_residual.ensures.1
+
+pub loop-i-preserved : goal.loop-i-preserved
+loop-i-preserved g c =
+    let l = c.loop-i in
+    let a = c.args in
+    let s = a.self.now.bytes.now in
+    let i = l._i in
+    let o = c.in_ok-coord.ensures in
+    let m : i < a.n = omega arith in
+    let f = rw l.invariant.0 at o.fault in
+    let v = rw l.invariant.0 at o.value in
+    let p = c.push.ensures in (
+      o.bytes ∙ l.invariant.0,
+      omega (arith, o.next, l.invariant.1),
+      omega (arith, p.len, o.next, (room_turn (length l.out.items) (a.n - i) l.self.at (length s) g.row.N (omega arith) (coord_inside s _ l.self.at (sym f)) l.invariant.2).1),
+      faults_turn next_coord (coord_in s (number_of a.refusal)) a.n i l.self.at m f o.next l.invariant.3,
+      each_turn next_coord (coord_at s) l.out.items a.n i l.self.at m o.next (rw v at p.items) l.invariant.4,
+    )
+
+pub returns-clause-fault : goal.returns-clause-fault
+returns-clause-fault g c =
+    let l = c.loop-i in
+    faults_end next_coord (coord_in c.args.self.now.bytes.now (number_of c.args.refusal)) c.args.n l._i l.self.at (omega arith) l.invariant.3
+
+pub returns-clause-values : goal.returns-clause-values
+returns-clause-values g c =
+    let l = c.loop-i in
+    each_end next_coord (coord_at c.args.self.now.bytes.now) l.out.items c.args.n l._i l.self.at (omega arith) l.invariant.4

@@ -1,7 +1,0 @@
--- `floats_from` is the part that it names.
--- Rests on the law of such a part.
-use Rattle.plan.specs.Walk.{rest_is}
-use Rattle.plan.proofs.parts.floats_from.Goals as goal
-
-pub returns : goal.returns
-returns c = rest_is c.args.l.now c.args.at
