@@ -3,8 +3,8 @@
  *
  * A piece is its ring sizes, the outer ring first, and the coordinates of its
  * vertices, x and y in turn, ring after ring: `floats` is twice the sum of the
- * sizes. A ring on its own is its coordinates. Obstacles are four floats each,
- * all with positive width and height: centre x, centre y, width, height.
+ * sizes. A ring on its own is its coordinates. Obstacles have positive width and
+ * height.
  * Work slices are of 8,000 floats each unless a comment says otherwise.
  *
  * All floats are compared by their bits, NaNs as equal.
@@ -15,9 +15,19 @@
 #include <stddef.h>
 #include <stdint.h>
 
+typedef struct { double center_x, center_y, width, height; } probe_rectangle;
+
+/* What a packer is told. */
+typedef struct {
+    double radius, gap, boundary_gap, precision;
+    size_t quota;
+    uint32_t attempts;
+    _Bool spread, strict;
+} probe_packing;
+
 #define PIECE                                                                  \
     const uint64_t *ring_sizes, size_t rings, const double *coords, size_t floats
-#define OBSTACLES const double *obstacles, size_t obstacle_floats
+#define OBSTACLES const probe_rectangle *obstacles, size_t obstacle_count
 #define WORK                                                                   \
     double *first, size_t first_length, double *second, size_t second_length
 
@@ -59,16 +69,16 @@ uint8_t probe_deepest_point(PIECE, double precision, WORK, double found[3],
  * there is no deepest point, -1 where too many wait. */
 double probe_depth(PIECE, double precision, double *cells, size_t cell_floats);
 
-/* discs.rs, each packer on one piece with its quota (at least 1). settings are
- * radius, gap, boundary gap, precision. `state` is the stream's, before and
- * after; only Random changes it. The answer is the number of spots; `spots`
- * begins with them, x and y in turn, and has room for the quota. A lattice that
- * is not spread is strict and only counted. The piece's search has at most 1,600
- * cells waiting. */
+/* discs.rs, each packer on one piece with its quota (at least 1). `state` is
+ * the stream's, before and after; only Random changes it, and only it uses the
+ * flags, one for each mark of the quota. The answer is the number of spots;
+ * `spots` begins with them, x and y in turn, and has room for the quota. A
+ * lattice that is not spread is strict and only counted. The piece's search has
+ * at most 1,600 cells waiting. */
 #define PACKER(name)                                                           \
-    uint64_t name(PIECE, OBSTACLES, const double settings[4], uint64_t quota,  \
-                  uint32_t attempts, uint8_t spread, uint8_t strict,           \
-                  uint64_t *state, WORK, double *spots, size_t spot_floats)
+    size_t name(PIECE, OBSTACLES, const probe_packing *packing,              \
+                uint64_t *state, WORK, _Bool *flags, size_t flag_count,        \
+                double *spots, size_t spot_floats)
 PACKER(probe_pack_uniform);
 PACKER(probe_pack_rectangular);
 PACKER(probe_pack_low_discrepancy);

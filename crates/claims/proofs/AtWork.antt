@@ -1,4 +1,4 @@
--- The claim at work: the example is accepted, whatever slices of the asked lengths are lent, and its sheet's claim says that its two spots are apart and clear of the pillar.
+-- The claim at work: the example is accepted, whatever slices are lent, and its claim says that its two spots are apart and clear of the pillar.
 -- Rests on the example's computation.
 use Rattle.std.specs.Prelude.{◌≡◌, refl, List, [], ◌∷◌, ℕ, ◌≤◌, length, Float}
 use Rattle.std.proofs.Common.{◌∙◌, le-leb}
@@ -15,7 +15,8 @@ use Rattle.discs.specs.Searches.{starts_deepest, is_searched, searched, searches
 use Rattle.job.specs.Plan.{search_fault, low_fault, ceiling_of, ceiling_fault, number_of, given, plan_of}
 use Rattle.claims.specs.Claim.{Inset, Away, FarApart, PieceKept, ZoneKept, Zones, SheetKept}
 use Rattle.claims.proofs.EverySheet.{every_sheet_kept}
-use Rattle.claims.specs.Example.{job, lent, read, options, square, said, says, corner, pillar, ctx, one, other, shared, kept_near, placed, pillars, found, inset_is, spacing_is}
+use Rattle.claims.specs.Example.{job, lent, read, options, square, said, says, corner, pillar, ctx, one, other, shared, kept_near, placed, pillars, found}
+use Rattle.claims.specs.Example.{inset_is, spacing_is}
 
 -- ---- it is accepted
 fits : (n : ℕ) → 53 ≤ n → sheet_fault said n ≡ 0
@@ -38,7 +39,8 @@ numbered : (first second : List Float) (sheet : List ℕ) → 8000 ≤ length fi
 unfolding number_of ◌or_else◌
 numbered first second sheet f g h = rw (lent, lent_enough (length first) (length second) f g, read, says, fits (length sheet) h, roomy, not_low)
 
-accepted : (first second : List Float) (sheet : List ℕ) → 8000 ≤ length first → 8000 ≤ length second → 53 ≤ length sheet → (plan_of job first second sheet).number ≡ 0
+accepted :
+    (first second : List Float) (sheet : List ℕ) → 8000 ≤ length first → 8000 ≤ length second → 53 ≤ length sheet → (plan_of job first second sheet).number ≡ 0
 unfolding plan_of given
 accepted first second sheet f g h = rw (numbered first second sheet f g h)
 
@@ -72,4 +74,5 @@ says_so bytes k =
 
 -- and so it does of the sheet that the call gives
 of_its_sheet : (first second : List Float) (sheet : List ℕ) → 8000 ≤ length first → 8000 ≤ length second → 53 ≤ length sheet → Said
-of_its_sheet first second sheet f g h = says_so (plan_of job first second sheet).sheet (every_sheet_kept job first second sheet (accepted first second sheet f g h))
+of_its_sheet first second sheet f g h =
+    says_so (plan_of job first second sheet).sheet (every_sheet_kept job first second sheet (accepted first second sheet f g h))

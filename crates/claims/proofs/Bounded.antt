@@ -42,9 +42,13 @@ module _ (x y : Float) (ring : Ring) (n : ℕ) where
   at_turn i h = closer_under (square_at x y ring n i) (least_after x y ∞ ring n i) h (after_good x y ∞ ring ∞-good n i).number
 
   after_under : (i : ℕ) → i < n → Number (square_at x y ring n i) → T (le (least_after x y ∞ ring n n) (square_at x y ring n i))
-  after_under i l h = le_trans (least_after x y ∞ ring n n) (least_after x y ∞ ring n (suc i)) (square_at x y ring n i) (after_falls x y ∞ ring ∞-good n (suc i) n l) (at_turn i h)
+  after_under i l h =
+      le_trans (least_after x y ∞ ring n n) (least_after x y ∞ ring n (suc i)) (square_at x y ring n i) (after_falls x y ∞ ring ∞-good n (suc i) n l)
+      (at_turn i h)
 
-ring_under : (x y : Float) (ring : Ring) (i : ℕ) → 2 ≤ vertices ring → i < vertices ring → Number (square_at x y ring (vertices ring) i) → T (le (least_of_ring x y ∞ ring) (square_at x y ring (vertices ring) i))
+ring_under :
+    (x y : Float) (ring : Ring) (i : ℕ) → 2 ≤ vertices ring → i < vertices ring → Number (square_at x y ring (vertices ring) i)
+    → T (le (least_of_ring x y ∞ ring) (square_at x y ring (vertices ring) i))
 unfolding least_of_ring
 ring_under x y ring i two l h = rw (le-ltb (vertices ring) 2 two) (after_under x y ring (vertices ring) i l h)
 
@@ -58,7 +62,8 @@ module _ (x y : Float) (fx : T (fits binary64 x)) (fy : T (fits binary64 y)) whe
       let q = square_at x y ring (vertices ring) e.index in
       ranged g.square.fit (wider (omega arith) zero_sized) e.near (rw origin_is (at_least_zero _ g))
       (le_trans (foldl (least_of_ring x y) (least_of_ring x y ∞ ring) holes) (least_of_ring x y ∞ ring) q
-      (rings_fall x y (least_of_ring x y ∞ ring) holes (ring_good x y ∞ ring ∞-good)) (ring_under x y ring e.index (omega (arith, (inside_between x y ring h).three)) e.within (sized_number e.near)))
+      (rings_fall x y (least_of_ring x y ∞ ring) holes (ring_good x y ∞ ring ∞-good))
+      (ring_under x y ring e.index (omega (arith, (inside_between x y ring h).three)) e.within (sized_number e.near)))
 
   distance_near : (piece : Piece) → PieceKnown piece → point_in_polygon x y (outer piece) ≡ true → Sized (min_dist_to_rings x y piece) 1031
   unfolding outer least_of_rings
@@ -66,7 +71,8 @@ module _ (x y : Float) (fx : T (fits binary64 x)) (fy : T (fits binary64 y)) whe
   distance_near (ring ∷ holes) k h =
       let s = least_near ring holes k.rings.0 h in
       let g = rings_good x y ∞ (ring ∷ holes) ∞-good in
-      rw least_root (sqrt_sized (least_of_rings x y (ring ∷ holes)) 1031 s (rw zero_val at (le→≼ 0ᶠ _ zero_num s.num (rw origin_is (at_least_zero _ g)))) (lit< tt))
+      rw least_root
+      (sqrt_sized (least_of_rings x y (ring ∷ holes)) 1031 s (rw zero_val at (le→≼ 0ᶠ _ zero_num s.num (rw origin_is (at_least_zero _ g)))) (lit< tt))
 
   pub clearance_inside : (piece : Piece) → PieceKnown piece → within x y piece ≡ true → Sized (signed_clearance x y piece) 1031
   clearance_inside piece k h = rw (inside_is x y piece h) (distance_near piece k (within_outer x y piece h))

@@ -42,7 +42,8 @@ record Held (r : Float) : Type 0 where
   bound : (r ≡ ∞) ⊎ Under r
 
 module _ (room : ℕ) (gap precision : Float) (G : Sized gap 16) (o : Nonneg gap) where
-  found_held : (r clearance other : Float) → T (fits binary64 r) → Sized clearance 1031 → T (fits binary64 other) → Held (min (min r (clearance /ᶠ (1ᶠ +ᶠ gap))) other)
+  found_held :
+      (r clearance other : Float) → T (fits binary64 r) → Sized clearance 1031 → T (fits binary64 other) → Held (min (min r (clearance /ᶠ (1ᶠ +ᶠ gap))) other)
   found_held r clearance other f c p =
       let F = factor gap G o in
       let q = clearance /ᶠ (1ᶠ +ᶠ gap) in
@@ -50,7 +51,12 @@ module _ (room : ℕ) (gap precision : Float) (G : Sized gap 16) (o : Nonneg gap
       let m = min r q in
       record {
         fit = min_fits m other (min_fits r q f (div-fits binary64 clearance (1ᶠ +ᶠ gap))) p;
-        bound = inr (record { top = q; sized = Q; below = le_trans (min m other) m q (min_le_l m other (min_number_r r q (sized_number Q))) (min_le_r r q (sized_number Q)) });
+        bound =
+            inr (record {
+              top = q;
+              sized = Q;
+              below = le_trans (min m other) m q (min_le_l m other (min_number_r r q (sized_number Q))) (min_le_r r q (sized_number Q));
+            });
       }
 
   lowered_held : (n : ℕ) (r area : Float) (d : Deepest) → OfFound Deep d → Held r → Held (lowered gap n r area d)
@@ -65,7 +71,8 @@ module _ (room : ℕ) (gap precision : Float) (G : Sized gap 16) (o : Nonneg gap
   work_held : (work : List Zone) → Every (λ (zone : Zone). All PieceKnown zone.pieces) work → (r : Float) → Held r → Held (foldl bounded r work)
   work_held [] k r h = h
   work_held (zone ∷ work) k r h =
-      work_held work k.1 (bounded r zone) (lowered_held zone.count r (area_of zone.pieces) (poi_with_holes room precision zone.pieces) (poi_deep room precision zone.pieces k.0) h)
+      work_held work k.1 (bounded r zone)
+      (lowered_held zone.count r (area_of zone.pieces) (poi_with_holes room precision zone.pieces) (poi_deep room precision zone.pieces k.0) h)
 
   not_finite : is_finite ∞ ≡ false
   unfolding is_finite abs lt of_bits
@@ -80,7 +87,9 @@ module _ (room : ℕ) (gap precision : Float) (G : Sized gap 16) (o : Nonneg gap
       go (inr u) = ranged h.fit (wider (omega arith) zero_sized) u.sized (lt_le 0ᶠ r p) u.below
 
   -- THE CEILING
-  pub ceiling_known : (work : List Zone) → Every (λ (zone : Zone). All PieceKnown zone.pieces) work → (r-hi : Float) → analytic_r_hi room work gap precision ≡ Some r-hi → Top r-hi
+  pub ceiling_known :
+      (work : List Zone) → Every (λ (zone : Zone). All PieceKnown zone.pieces) work → (r-hi : Float) → analytic_r_hi room work gap precision ≡ Some r-hi
+      → Top r-hi
   unfolding analytic_r_hi if_positive
   ceiling_known work k r-hi e = go (is_finite r && r >ᶠ 0ᶠ) refl e
     where
@@ -90,7 +99,9 @@ module _ (room : ℕ) (gap precision : Float) (G : Sized gap 16) (o : Nonneg gap
       top : T (is_finite r && r >ᶠ 0ᶠ) → Top r
       top t =
           let p = and_r (is_finite r) (r >ᶠ 0ᶠ) t in
-          let s = kept r (work_held work k ∞ (record { fit = of_bits-fits binary64 0x7ff0_0000_0000_0000; bound = inl refl })) (and_l (is_finite r) (r >ᶠ 0ᶠ) t) p in
+          let s =
+          kept r (work_held work k ∞ (record { fit = of_bits-fits binary64 0x7ff0_0000_0000_0000; bound = inl refl }))
+          (and_l (is_finite r) (r >ᶠ 0ᶠ) t) p in
           record { sized = s; nonneg = rw zero_val at (le→≼ 0ᶠ r zero_num s.num (lt_le 0ᶠ r p)) }
 
       go : (b : Bool) → is_finite r && r >ᶠ 0ᶠ ≡ b → cond b (Some r) None ≡ Some r-hi → Top r-hi

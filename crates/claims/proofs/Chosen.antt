@@ -1,4 +1,4 @@
--- THE RADIUS OF A JOB: where spots are placed it is 2 ^ -21 at least and k at most, for a stated radius of at most 1,024 in 1/1024 and a ceiling of 2 ^ -10 at least and k at most.
+-- THE RADIUS OF A JOB: where spots are placed it is from 2 ^ -21 to k, for a stated radius up to 1,024 in 1/1024 and a ceiling from 2 ^ -10 to k.
 -- Rests on the law of the radius under a ceiling.
 use Rattle.std.specs.Prelude.{◌≡◌, refl, Bool, cond, ◌&&◌, List, T, Float, None, Some, Option}
 use Rattle.std.proofs.Common.{◌∙◌, zero-mul}
@@ -39,7 +39,9 @@ share_coordinate n h = record { sign = false; count = n; few = h; multiple = sha
 
 module _ (k : ℕ) (big : 1024 ≤ k) (few : k < 65536) where
   share_usable : (n : ℕ) → n ≤ 1048576 → T (0ᶠ <ᶠ share n) → Usable (share n) k
-  share_usable zero h t = absurd (nothing (sgn (share 0)) (mag (share 0)) ((share_exact 0 (omega arith)).is ∙ zero-mul (2 ^ 1064)) (rw zero_val at (lt→≺ 0ᶠ (share 0) zero_num (share_exact 0 (omega arith)).num t)))
+  share_usable zero h t =
+      absurd (nothing (sgn (share 0)) (mag (share 0)) ((share_exact 0 (omega arith)).is ∙ zero-mul (2 ^ 1064))
+      (rw zero_val at (lt→≺ 0ᶠ (share 0) zero_num (share_exact 0 (omega arith)).num t)))
     where
       nothing : (b : Bool) (m : ℕ) → m ≡ 0 → nat 0 ≺ signed b m → ⊥
       nothing true m z l = omega (arith, z, l)
@@ -56,10 +58,13 @@ module _ (k : ℕ) (big : 1024 ≤ k) (few : k < 65536) where
   stated_usable : (r : Float) → RadiusKnown (Stated r) → T (0ᶠ <ᶠ r) → Usable r k
   stated_usable r s t = rw s.is (share_usable s.number s.to (rw s.is at t))
 
-  pub sizing_usable : (fit : List Rectangle → Float → Bool) (obstacles : List Rectangle) (radius : Radius) → RadiusKnown radius → (top : Option Float) → TopKnown k radius top → SizingUsable k (size_for fit obstacles radius top)
+  pub sizing_usable :
+      (fit : List Rectangle → Float → Bool) (obstacles : List Rectangle) (radius : Radius) → RadiusKnown radius → (top : Option Float) → TopKnown k radius top
+      → SizingUsable k (size_for fit obstacles radius top)
   unfolding size_for
   sizing_usable fit obstacles Auto s None t = tt
-  sizing_usable fit obstacles Auto s (Some r-hi) t = under_ceiling fit obstacles r-hi (ceiling r-hi (wider (omega (arith, few)) t.sized) t.nonneg t.least) k few t.sized
+  sizing_usable fit obstacles Auto s (Some r-hi) t =
+      under_ceiling fit obstacles r-hi (ceiling r-hi (wider (omega (arith, few)) t.sized) t.nonneg t.least) k few t.sized
   sizing_usable fit obstacles (Stated r) s top t = go (r >ᶠ 0ᶠ) (is_finite r) (stated_usable r s)
     where
       go : (a b : Bool) → (T a → Usable r k) → SizingUsable k (cond (a && b) (Some (record { radius = r; free_trials = 0; obstacle_trials = 0 })) None)

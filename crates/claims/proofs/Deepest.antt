@@ -25,7 +25,8 @@ use Rattle.deepest.specs.declared.search.Best.{Best}
 use Rattle.deepest.specs.declared.search.Deepest.{Deepest}
 use Rattle.deepest.specs.declared.search.Deepest.TheVariants.{Found, Nothing, Full}
 use Rattle.deepest.specs.Order.{halves_from, half_at, leaves}
-use Rattle.deepest.specs.Deepest.{enter, heft, sum_over, better_of, answer_of, next_corner, first_corner, Grid, waiting, over, make_cell, splits_at, grid_from, enter_four, turns, finish, centre_of, search_in, deepest_point, deeper_of, poi_with_holes}
+use Rattle.deepest.specs.Deepest.{enter, heft, sum_over, better_of, answer_of, next_corner, first_corner, Grid, waiting, over, make_cell, splits_at, grid_from}
+use Rattle.deepest.specs.Deepest.{enter_four, turns, finish, centre_of, search_in, deepest_point, deeper_of, poi_with_holes}
 use Rattle.claims.specs.Within.{inset_placed, inset_within}
 use Rattle.claims.proofs.Bounded.{clearance_inside}
 use Rattle.claims.specs.Deepest.{Deep, Honest, OfFound}
@@ -78,14 +79,17 @@ module _ (piece : Piece) (halves : List Float) where
       go true e = (b, yes e)
       go false e = tt
 
-  turned : (f : ℕ) (precision : Float) (room : ℕ) (q : List Cell) (best : Best) (n : ℕ) → Every (HonestCell piece) q → HonestBest piece best → HonestFound piece (turns piece halves f precision room q best n)
+  turned :
+      (f : ℕ) (precision : Float) (room : ℕ) (q : List Cell) (best : Best) (n : ℕ) → Every (HonestCell piece) q → HonestBest piece best
+      → HonestFound piece (turns piece halves f precision room q best n)
   unfolding turns
   turned zero precision room q best n a b = answered best b
   turned (suc f) precision room [] best n a b = answered best b
   turned (suc f) precision room (c ∷ rest) best n a b =
       let g = better best c b a.0 in
       one (HonestFound piece) (splits_at halves precision c (better_of best c)) _ _
-      (one (HonestFound piece) (ltb room (length rest + 4)) Full _ tt (turned f precision room (enter_four piece halves c n rest) (better_of best c) (n + 4) (four c n rest a.1) g))
+      (one (HonestFound piece) (ltb room (length rest + 4)) Full _ tt
+      (turned f precision room (enter_four piece halves c n rest) (better_of best c) (n + 4) (four c n rest a.1) g))
       (turned f precision room rest (better_of best c) n a.1 g)
 
   gridded :
@@ -95,9 +99,12 @@ module _ (piece : Piece) (halves : List Float) where
   gridded e side r None q n a = a
   gridded e side zero (Some c) q n a = tt
   gridded e side (suc r) (Some c) q n a =
-      gridded e side r (next_corner e side c) _ (n + 1) (entered _ q (made _ _ _ _ (add-fits binary64 c.x (half_at halves 0)) (add-fits binary64 c.y (half_at halves 0))) a)
+      gridded e side r (next_corner e side c) _ (n + 1)
+      (entered _ q (made _ _ _ _ (add-fits binary64 c.x (half_at halves 0)) (add-fits binary64 c.y (half_at halves 0))) a)
 
-  finished : (precision : Float) (room : ℕ) (best : Best) (g : Grid) → HonestBest piece best → HonestGrid piece g → HonestFound piece (finish piece halves precision room best g)
+  finished :
+      (precision : Float) (room : ℕ) (best : Best) (g : Grid) → HonestBest piece best → HonestGrid piece g
+      → HonestFound piece (finish piece halves precision room best g)
   unfolding finish
   finished precision room best over b a = tt
   finished precision room best (waiting q) b a = turned (sum_over heft q) precision room q best (length q) a b
@@ -150,6 +157,9 @@ module _ (room : ℕ) (precision : Float) where
   unfolding poi_with_holes
   poi_deep pieces k = go pieces k Nothing tt
     where
-      go : (pieces : List Piece) → All PieceKnown pieces → (best : Deepest) → OfFound Deep best → OfFound Deep (foldl (λ best piece. deeper_of best (deepest_point room precision piece)) best pieces)
+      go :
+          (pieces : List Piece) → All PieceKnown pieces → (best : Deepest) → OfFound Deep best
+          → OfFound Deep (foldl (λ best piece. deeper_of best (deepest_point room precision piece)) best pieces)
       go [] k best b = b
-      go (piece ∷ pieces) k best b = go pieces k.1 (deeper_of best (deepest_point room precision piece)) (deeper Deep best (deepest_point room precision piece) b (point_deep piece k.0))
+      go (piece ∷ pieces) k best b =
+          go pieces k.1 (deeper_of best (deepest_point room precision piece)) (deeper Deep best (deepest_point room precision piece) b (point_deep piece k.0))

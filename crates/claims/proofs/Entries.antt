@@ -29,14 +29,18 @@ exact_fit (p ∷ ps) e = (e.0.across.fit, (e.0.along.fit, exact_fit ps e.1))
 
 module _ (options : GlyphOptions) (pillars : List Rectangle) (radius : Float) where
   -- the spots of all pieces
-  own_few : (pieces : List Piece) (quotas : List ℕ) (spots : List (List Point)) → OwnPieces options pillars radius pieces quotas spots → length (flatten spots) ≤ sum quotas
+  own_few :
+      (pieces : List Piece) (quotas : List ℕ) (spots : List (List Point)) → OwnPieces options pillars radius pieces quotas spots
+      → length (flatten spots) ≤ sum quotas
   unfolding flatten weigh
   own_few pieces quotas [] h = omega arith
   own_few [] quotas (spots ∷ later) h = absurd h
   own_few (piece ∷ pieces) [] (spots ∷ later) h = absurd h
-  own_few (piece ∷ pieces) (quota ∷ quotas) (spots ∷ later) h = rw (length-append spots (flatten later)) (omega (arith, h.0.within, own_few pieces quotas later h.1))
+  own_few (piece ∷ pieces) (quota ∷ quotas) (spots ∷ later) h =
+      rw (length-append spots (flatten later)) (omega (arith, h.0.within, own_few pieces quotas later h.1))
 
-  own_exact : (pieces : List Piece) (quotas : List ℕ) (spots : List (List Point)) → OwnPieces options pillars radius pieces quotas spots → Every Exact (flatten spots)
+  own_exact :
+      (pieces : List Piece) (quotas : List ℕ) (spots : List (List Point)) → OwnPieces options pillars radius pieces quotas spots → Every Exact (flatten spots)
   unfolding flatten
   own_exact pieces quotas [] h = tt
   own_exact [] quotas (spots ∷ later) h = absurd h

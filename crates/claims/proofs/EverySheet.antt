@@ -1,6 +1,7 @@
 -- Of every job that is not refused, the sheet keeps what is claimed of it: clearances, exact distances, pillars under Strict, quotas.
 -- Rests on the laws of its zones and of the radius, and on the sheet's bytes being read back.
-use Rattle.std.specs.Prelude.{◌≡◌, refl, Bool, true, false, not, cond, ◌&&◌, List, [], ◌∷◌, ◌++◌, map, ℕ, suc, ◌*◌, ◌≤◌, ◌<◌, T, eqb, ltb, length, Float, None, Some, Option}
+use Rattle.std.specs.Prelude.{◌≡◌, refl, Bool, true, false, not, cond, ◌&&◌, List, [], ◌∷◌, ◌++◌, map, ℕ, suc, ◌*◌, ◌≤◌, ◌<◌, T, eqb, ltb, length, Float, None}
+use Rattle.std.specs.Prelude.{Some, Option}
 use Rattle.std.proofs.Common.{sym, ap, subst, ◌∙◌, arith, eqb→eq, ltb→lt, eq-eqb}
 use Rattle.std.proofs.lemmas.List.{length-map}
 use Rattle.std.specs.Float.Ieee.{of_bits, fits}
@@ -27,7 +28,8 @@ use Rattle.job.specs.Job.{Job, job_of, items_fault, sheet_fault}
 use Rattle.job.specs.Known.{ZoneKnown, marks_of, JobKnown}
 use Rattle.job.proofs.Known.{job_known}
 use Rattle.relax.specs.Scatter.{source}
-use Rattle.job.specs.Plan.{room, least_ceiling, low_fault, ceiling_of, search_fault, ceiling_fault, number_of, placements_of, placement_of, sheet_for, Plan, given, refused, plan_of}
+use Rattle.job.specs.Plan.{room, least_ceiling, low_fault, ceiling_of, search_fault, ceiling_fault, number_of, placements_of, placement_of, sheet_for, Plan}
+use Rattle.job.specs.Plan.{given, refused, plan_of}
 use Rattle.claims.specs.Claim.{pillars_of, SheetKept}
 use Rattle.claims.specs.Ceilings.{Top}
 use Rattle.claims.proofs.Ceilings.{ceiling_known}
@@ -80,20 +82,28 @@ least_is = refl
 high : (r-hi : Float) → Top r-hi → low_fault (Some r-hi) ≡ 0 → High most r-hi
 unfolding low_fault
 high r-hi t e =
-    let l : signed false (mag least_ceiling) ≼ val r-hi = rw least_val at (le→≼ least_ceiling r-hi least_num t.sized.num (yes (passed 16 (r-hi ≥ᶠ least_ceiling) (omega arith) e))) in
+    let l : signed false (mag least_ceiling) ≼ val r-hi =
+    rw least_val at (le→≼ least_ceiling r-hi least_num t.sized.num (yes (passed 16 (r-hi ≥ᶠ least_ceiling) (omega arith) e))) in
     record { sized = t.sized; nonneg = t.nonneg; least = omega (arith, l, least_is, plain (sgn r-hi) (mag r-hi) t.nonneg) }
 
-top_known : (job : Job) → JobKnown job → ceiling_fault job ≡ 0 → TopKnown most job.options.radius (analytic_r_hi room (work_of job.zones) (boundary_gap_of job.options) job.options.precision)
+top_known :
+    (job : Job) → JobKnown job → ceiling_fault job ≡ 0
+    → TopKnown most job.options.radius (analytic_r_hi room (work_of job.zones) (boundary_gap_of job.options) job.options.precision)
 unfolding ceiling_fault ceiling_of
 top_known job k e = go job.options.radius e _ refl
   where
-    go : (radius : Radius) → low_fault (ceiling_of job.options (work_of job.zones) radius) ≡ 0 → (top : Option Float) → analytic_r_hi room (work_of job.zones) (boundary_gap_of job.options) job.options.precision ≡ top → TopKnown most radius top
+    go :
+        (radius : Radius) → low_fault (ceiling_of job.options (work_of job.zones) radius) ≡ 0 → (top : Option Float)
+        → analytic_r_hi room (work_of job.zones) (boundary_gap_of job.options) job.options.precision ≡ top → TopKnown most radius top
     go (Stated r) e top q = tt
     go Auto e None q = tt
     go Auto e (Some r-hi) q =
         let g = boundary_gap_lem job.options k.options in
-        let known = every_weaken LeftIn (λ (zone : Zone). All PieceKnown zone.pieces) (work_of job.zones) (λ zone l. l.known.pieces) (left_in job.zones k.zones k.marks) in
-        high r-hi (ceiling_known room (boundary_gap_of job.options) job.options.precision g.sized g.nonneg (work_of job.zones) known r-hi q) (subst (λ (c : Option Float). low_fault c ≡ 0) q e)
+        let known =
+        every_weaken LeftIn (λ (zone : Zone). All PieceKnown zone.pieces) (work_of job.zones) (λ zone l. l.known.pieces)
+        (left_in job.zones k.zones k.marks) in
+        high r-hi (ceiling_known room (boundary_gap_of job.options) job.options.precision g.sized g.nonneg (work_of job.zones) known r-hi q)
+        (subst (λ (c : Option Float). low_fault c ≡ 0) q e)
 
 -- ---- the whole
 accepted : (s : List ℕ) (first second : List Float) (sheet : List ℕ) → number_of s first second sheet ≡ 0 → (items_fault s ≡ 0) × (ceiling_fault (job_of s) ≡ 0)
@@ -114,7 +124,8 @@ kept s i c ys =
     let k = job_known s i in
     let l = left_in job.zones k.zones k.marks in
     let h = placements_kept most (omega arith) (omega arith) source job.options k.options (rectangles job.obstacles) job.zones l (top_known job k c) in
-    let few : length p.zones ≤ 64 = omega (arith, sym (length-map p.zones (λ (placed : Placed). placed.zone)), ap length h.same, few_left job.zones, k.few_zones) in
+    let few : length p.zones ≤ 64 =
+    omega (arith, sym (length-map p.zones (λ (placed : Placed). placed.zone)), ap length h.same, few_left job.zones, k.few_zones) in
     let inside : Every (λ (placed : Placed). LeftIn placed.zone) p.zones = every_unmap LeftIn (λ (placed : Placed). placed.zone) p.zones (rw h.same l) in
     let w : WritableSheet (sheet_for p) =
     record {
@@ -122,10 +133,15 @@ kept s i c ys =
       few = rw (length-map p.zones placement_of) (omega (arith, few));
       zones = all_writable job.options (pillars_of job) p.radius p.zones inside h.own;
     } in
-    record { left_in = h.same; radius = rw (sheet_back (sheet_for p) ys w); zones = rw (sheet_back (sheet_for p) ys w) (zones_kept job.options (pillars_of job) p.radius p.zones inside h.own) }
+    record {
+      left_in = h.same;
+      radius = rw (sheet_back (sheet_for p) ys w);
+      zones = rw (sheet_back (sheet_for p) ys w) (zones_kept job.options (pillars_of job) p.radius p.zones inside h.own);
+    }
 
 -- THE CLAIM: whatever bytes and slices are lent, where the call gives a sheet
-pub every_sheet_kept : (s : List ℕ) (first second : List Float) (sheet : List ℕ) → (plan_of s first second sheet).number ≡ 0 → SheetKept s (plan_of s first second sheet).sheet
+pub every_sheet_kept :
+    (s : List ℕ) (first second : List Float) (sheet : List ℕ) → (plan_of s first second sheet).number ≡ 0 → SheetKept s (plan_of s first second sheet).sheet
 unfolding plan_of given refused written
 every_sheet_kept s first second sheet e = go (eqb n 0) refl e
   where

@@ -1,8 +1,9 @@
--- QUOTAS: for a count up to 2,000 and up to 16 weights that are finite and not negative, of a computed sum above 0 and finite, the quotas add up to the count, and each is less than 1 + 2 ^ -20 away from its exact share, count * weight / sum.
+-- QUOTAS, of up to 2,000 marks by up to 16 finite weights of at least 0 and a finite computed sum above 0: they add up, each within 1 + 2 ^ -20 of its share.
 -- Rests on `Shares` (a computed share is 2 ^ -25 from the exact one at most), so no sum is taken to be exact; and on `HandOut`.
 use Rattle.std.specs.Prelude.{◌≡◌, Bool, true, false, cond, ℕ, zero, suc, ◌+◌, ◌-◌, ◌*◌, ◌/◌, ◌≤◌, ◌<◌, ltb, get_or, Float}
 use Rattle.std.proofs.Math.Path.{sym}
-use Rattle.std.proofs.Common.{ap, ◌∙◌, le_refl, lt_of_not-le, le_of_suc-le-suc, le_of_mul-le-mul_right, lt_of_mul-lt-mul_right, mul-le-mul, mul-le-mul_right, mul-lt-mul_of_pos_right, mul-pos, div-mul-le_self, lit<, ne_eqb}
+use Rattle.std.proofs.Common.{ap, ◌∙◌, le_refl, lt_of_not-le, le_of_suc-le-suc, le_of_mul-le-mul_right, lt_of_mul-lt-mul_right, mul-le-mul, mul-le-mul_right}
+use Rattle.std.proofs.Common.{mul-lt-mul_of_pos_right, mul-pos, div-mul-le_self, lit<, ne_eqb}
 use mathlib.Core.List.{List, [], ◌∷◌, map}
 use Rattle.std.proofs.Math.Nat.{lt-div-mul-add}
 use native.Mathlib.Omega.{arith}
@@ -40,7 +41,8 @@ floor_at : (n : ℕ) (sum w : Float) (W : ℕ) → n ≤ 2000 → 0 < W → mag 
 unfolding whole_share
 floor_at n sum w W n0 W0 l s =
     let z = share n sum w in
-    let small : mag z ≤ 2001 * U = le_of_mul-le-mul_right {k = W} (omega (arith, s.low, mul-le-mul_right U (mul-le-mul n0 l), ap (λ (t : ℕ). W * t) tiny_is)) W0 in
+    let small : mag z ≤ 2001 * U =
+    le_of_mul-le-mul_right {k = W} (omega (arith, s.low, mul-le-mul_right U (mul-le-mul n0 l), ap (λ (t : ℕ). W * t) tiny_is)) W0 in
     let e = floor_usize z 2001 s.num small (lit< tt) s.nonneg in
     rw e (record { low = cut (mag z) n (mag w) s.low; high = next (mag z) n (mag w) s.high })
   where
@@ -113,7 +115,8 @@ module _ (n : ℕ) (weights : List Float) (n0 : n ≤ 2000) (h : Weighed weights
 
   some_weight : no_weight (total weights) ≡ false
   unfolding no_weight
-  some_weight = rw (finite_not_nan (total weights) h.fine) (is_false (le (total weights) 0ᶠ) (not_T (le (total weights) 0ᶠ) (lt_not_le 0ᶠ (total weights) h.above)))
+  some_weight =
+      rw (finite_not_nan (total weights) h.fine) (is_false (le (total weights) 0ᶠ) (not_T (le (total weights) 0ᶠ) (lt_not_le 0ᶠ (total weights) h.above)))
 
   abbrev floors : List ℕ
   floors = base n (total weights) weights

@@ -44,7 +44,10 @@ module _ (r-hi : Float) (c : Ceiling r-hi) where
       let T' : Sized t 65536 = mul_sized thousandth_sized c.sized (lit< tt) in
       let W : Sized w 65536 = sub_sized S zero_sized (lit< tt) in
       let p = mul_of_finite 1e-3ᶠ r-hi thousandth_sized.num c.sized.num T'.num.fine in
-      let l : part c ≤ mag t = p.least (part c) (digits_at c.q c.b c.small) (le_trans (mul-le-mul_left (part c) thousandth_least) (le_trans (le_of_eq (turned (part c) (mag 1e-3ᶠ))) (le_of_eq (ap (λ (z : ℕ). mag 1e-3ᶠ * z) (sym (part_is c)))))) in
+      let l : part c ≤ mag t =
+      p.least (part c) (digits_at c.q c.b c.small)
+      (le_trans (mul-le-mul_left (part c) thousandth_least)
+      (le_trans (le_of_eq (turned (part c) (mag 1e-3ᶠ))) (le_of_eq (ap (λ (z : ℕ). mag 1e-3ᶠ * z) (sym (part_is c)))))) in
       let r = sub_of_finite hi 0ᶠ S.num zero_num W.num.fine in
       let m : val w ≼ signed false (mag hi) = r.most false (mag hi) (digits hi S.num) (rw zero_val (bare (sgn hi) (mag hi))) in
       ≼→le w t W.num T'.num (omega (arith, m, plain (sgn t) (mag t) (product_nonneg 1e-3ᶠ r-hi t p thousandth_nonneg c.nonneg)))
@@ -79,7 +82,8 @@ module _ (fit : Float → Bool) (r-hi : Float) (c : Ceiling r-hi) where
       let mid = middle lo hi in
       let m = middle_between lo hi 65536 L.sized G (lit< tt) L.nonneg o h in
       let M : Found r-hi c mid = record { sized = m.sized; nonneg = m.nonneg; low = le_trans L.low m.low; high = le_trans m.high t } in
-      one_of (Good r-hi c) (ended lo hi) (fit mid) (record { best = best; trials = made }) (search turns mid hi (Some mid) (made + 1)) (search turns lo mid best (made + 1)) g
+      one_of (Good r-hi c) (ended lo hi) (fit mid) (record { best = best; trials = made }) (search turns mid hi (Some mid) (made + 1))
+      (search turns lo mid best (made + 1)) g
       (after turns mid hi (Some mid) (made + 1) M G o m.high t M) (after turns lo mid best (made + 1) L m.sized m.nonneg m.low (le_trans m.high t) g)
 
   -- before the first
@@ -96,9 +100,17 @@ module _ (fit : Float → Bool) (r-hi : Float) (c : Ceiling r-hi) where
   before (suc turns) (suc m) hi made G o t e =
       let mid = middle 0ᶠ hi in
       let w = middle_between 0ᶠ hi 65536 (wider (omega arith) zero_sized) G (lit< tt) (rw zero_val (omega arith)) o (rw zero_mag (omega arith)) in
-      let half : mag mid ≡ c.q * 2 ^ (c.b + m) = half_exact hi 65536 (c.q * 2 ^ (c.b + m)) G (lit< tt) o (digits_at c.q (c.b + m) c.small) (e ∙ twice c.q c.b m) in
-      let M : Found r-hi c mid = record { sized = w.sized; nonneg = w.nonneg; low = le_trans (mul-le-mul_left c.q (pow_mono (omega arith))) (le_of_eq (sym half)); high = le_trans w.high t } in
-      one_of (Good r-hi c) (ended 0ᶠ hi) (fit mid) (record { best = None; trials = made }) (search turns mid hi (Some mid) (made + 1)) (search turns 0ᶠ mid None (made + 1)) tt
+      let half : mag mid ≡ c.q * 2 ^ (c.b + m) =
+      half_exact hi 65536 (c.q * 2 ^ (c.b + m)) G (lit< tt) o (digits_at c.q (c.b + m) c.small) (e ∙ twice c.q c.b m) in
+      let M : Found r-hi c mid =
+      record {
+        sized = w.sized;
+        nonneg = w.nonneg;
+        low = le_trans (mul-le-mul_left c.q (pow_mono (omega arith))) (le_of_eq (sym half));
+        high = le_trans w.high t;
+      } in
+      one_of (Good r-hi c) (ended 0ᶠ hi) (fit mid) (record { best = None; trials = made }) (search turns mid hi (Some mid) (made + 1))
+      (search turns 0ᶠ mid None (made + 1)) tt
       (after turns mid hi (Some mid) (made + 1) M G o w.high t M) (before turns m mid (made + 1) w.sized w.nonneg (le_trans w.high t) half)
     where
       twice : (q b m : ℕ) → q * 2 ^ (b + suc m) ≡ 2 * (q * 2 ^ (b + m))
@@ -108,6 +120,8 @@ module _ (fit : Float → Bool) (r-hi : Float) (c : Ceiling r-hi) where
   unfolding auto_radius
   searched = go (fit r-hi) (before 24 10 r-hi 1 c.sized c.nonneg (omega arith) c.is)
     where
-      go : (a : Bool) → Good r-hi c (search 24 0ᶠ r-hi None 1).best → Good r-hi c (cond a (record { best = Some r-hi; trials = 1 }) (search 24 0ᶠ r-hi None 1)).best
+      go :
+          (a : Bool) → Good r-hi c (search 24 0ᶠ r-hi None 1).best
+          → Good r-hi c (cond a (record { best = Some r-hi; trials = 1 }) (search 24 0ᶠ r-hi None 1)).best
       go true x = record { sized = c.sized; nonneg = c.nonneg; low = omega (arith, part_is c); high = omega arith }
       go false x = x

@@ -21,7 +21,8 @@ use Rattle.lattice.specs.declared.context.PackCtx.{PackCtx}
 use Rattle.lattice.specs.declared.context.Lattice.{Lattice}
 use Rattle.lattice.specs.Context.{inset, spacing}
 use Rattle.lattice.specs.Escape.{point}
-use Rattle.lattice.specs.Lattice.{HexCells, no_cells, Cap, never, at, i64_as_f64, through, hex_enum_cap, row_height, row_offset, row_cells, all_cells, judge, cells_within, lattice_valid_cells, take_cells}
+use Rattle.lattice.specs.Lattice.{HexCells, no_cells, Cap, never, at, i64_as_f64, through, hex_enum_cap, row_height, row_offset, row_cells, all_cells, judge}
+use Rattle.lattice.specs.Lattice.{cells_within, lattice_valid_cells, take_cells}
 use Rattle.lattice.specs.Uniform.{available, cells_at, spread_cells, pack_lattice}
 use Rattle.claims.specs.Kept.{Unblocked, Fits, Kept, honor_kept, kept_by, Apart, apart_sym}
 use Rattle.claims.specs.Measures.{BoxSized, Measures}
@@ -59,7 +60,9 @@ module _
   abbrev cells : Float → Cap → HexCells
   cells s cap = cells_at piece n ctx rectangular near anchor s cap
 
-  sound_within : (b : Option Extents) → BoxSized b → (s : Float) (cap : Cap) → Widened (spacing ctx) s → Sound piece (inset ctx) near (Apart s) (cells_within b piece anchor (record { spacing = s; rectangular = rectangular }) (inset ctx) near cap)
+  sound_within :
+      (b : Option Extents) → BoxSized b → (s : Float) (cap : Cap) → Widened (spacing ctx) s
+      → Sound piece (inset ctx) near (Apart s) (cells_within b piece anchor (record { spacing = s; rectangular = rectangular }) (inset ctx) near cap)
   unfolding cells_within
   sound_within None z s cap w = no_cells_lem piece (inset ctx) near (Apart s)
   sound_within (Some bounds) z s cap w = go (s ≤ᶠ 0ᶠ || not (is_finite s))
@@ -73,7 +76,8 @@ module _
       go : (t : Bool) → Sound piece (inset ctx) near (Apart s) (cond t no_cells (judge piece (inset ctx) near cap no_cells (take hex_enum_cap all)))
       go true = no_cells_lem piece (inset ctx) near (Apart s)
       go false =
-          walked piece (inset ctx) near cap (Apart s) (apart_sym s) (take hex_enum_cap all) (every_take Fits hex_enum_cap all (walk_fits lat anchor bounds.min_x bounds.max_x bounds.min_y bounds.max_y))
+          walked piece (inset ctx) near cap (Apart s) (apart_sym s) (take hex_enum_cap all)
+          (every_take Fits hex_enum_cap all (walk_fits lat anchor bounds.min_x bounds.max_x bounds.min_y bounds.max_y))
           (pairwise_take (Apart s) hex_enum_cap all
           (walk_apart s rectangular anchor bounds.min_x bounds.max_x bounds.min_y bounds.max_y w.length w.few AX AY z.left z.right z.bottom z.top))
 
@@ -104,12 +108,15 @@ module _
   least = record { length = m.length; few = m.short; least = omega arith }
 
   -- the spacing widened, whatever the box
-  spread : (b : Option Extents) → BoxSized b → (honoring : Bool) → KeptHere honoring (spread_cells piece n ctx rectangular near anchor b (cells (spacing ctx) (at n)) honoring)
+  spread :
+      (b : Option Extents) → BoxSized b → (honoring : Bool)
+      → KeptHere honoring (spread_cells piece n ctx rectangular near anchor b (cells (spacing ctx) (at n)) honoring)
   unfolding spread_cells
   spread None z honoring = taken (spacing ctx) (at n) least honoring
   spread (Some bounds) z honoring =
       taken _ never
-      (widened piece n ctx rectangular near anchor honoring bounds.min_x bounds.max_x bounds.min_y bounds.max_y z.left z.right z.bottom z.top (spacing ctx) m.length m.short)
+      (widened piece n ctx rectangular near anchor honoring bounds.min_x bounds.max_x bounds.min_y bounds.max_y z.left z.right z.bottom z.top
+      (spacing ctx) m.length m.short)
       honoring
 
   -- short of room at the least spacing, Strict takes free cells only; otherwise honouring is what was possible there
@@ -123,12 +130,16 @@ module _
       at_min : HexCells
       at_min = cells (spacing ctx) (at n)
 
-      chosen : (b h : Bool) → KeptHere h (cond b (take_cells at_min n anchor h) (spread_cells piece n ctx rectangular near anchor (ring_bounds (outer piece)) at_min h))
+      chosen :
+          (b h : Bool)
+          → KeptHere h (cond b (take_cells at_min n anchor h) (spread_cells piece n ctx rectangular near anchor (ring_bounds (outer piece)) at_min h))
       chosen true h = taken (spacing ctx) (at n) least h
       chosen false h = spread (ring_bounds (outer piece)) m.box h
 
       go : (h strict b sp : Bool) → sp ≡ true
-          → KeptHere strict (cond (not h && strict) (cond sp (take_cells at_min n anchor true) at_min.free) (cond b (take_cells at_min n anchor h) (spread_cells piece n ctx rectangular near anchor (ring_bounds (outer piece)) at_min h)))
+          → KeptHere strict
+          (cond (not h && strict) (cond sp (take_cells at_min n anchor true) at_min.free)
+          (cond b (take_cells at_min n anchor h) (spread_cells piece n ctx rectangular near anchor (ring_bounds (outer piece)) at_min h)))
       go true strict b sp e = honor_kept strict (chosen b true)
       go false true b true e = taken (spacing ctx) (at n) least true
       go false true b false e = absurd (subst (λ (z : Bool). T (not z)) e tt)
@@ -151,7 +162,9 @@ module _
       at_min = cells (spacing ctx) (at n)
 
       go : (s b h sp : Bool) → sp ≡ true
-          → length (cond s (cond sp (take_cells at_min n anchor true) at_min.free) (cond b (take_cells at_min n anchor h) (spread_cells piece n ctx rectangular near anchor (ring_bounds (outer piece)) at_min h))) ≤ n
+          → length (cond s (cond sp (take_cells at_min n anchor true) at_min.free)
+          (cond b (take_cells at_min n anchor h) (spread_cells piece n ctx rectangular near anchor (ring_bounds (outer piece)) at_min h)))
+          ≤ n
       go true b h true e = taken_count at_min n anchor true
       go true b h false e = absurd (subst (λ (z : Bool). T (not z)) e tt)
       go false true h sp e = taken_count at_min n anchor h

@@ -52,18 +52,25 @@ away clear p (rect ∷ rects) t =
     (and_l here later t, away clear p rects (and_r here later t))
 
 -- ---- in the claim's words
-module _ (ctx : PackCtx) (policy : ObstaclePolicy) (strict : policy ≡ Strict → T ctx.mode.strict_obstacles) (pillars : List Rectangle) (piece : Piece) (quota : ℕ) where
+module _
+    (ctx : PackCtx) (policy : ObstaclePolicy) (strict : policy ≡ Strict → T ctx.mode.strict_obstacles) (pillars : List Rectangle) (piece : Piece)
+    (quota : ℕ) where
   abbrev near : List Rectangle
   near = local_to piece pillars (inset ctx)
 
-  kept_piece : (spots : List Point) → Measures piece ctx → Kept piece (inset ctx) near (Apart (spacing ctx)) ctx.mode.strict_obstacles spots → length spots ≤ quota → PieceKept ctx policy pillars piece quota spots
+  kept_piece :
+      (spots : List Point) → Measures piece ctx → Kept piece (inset ctx) near (Apart (spacing ctx)) ctx.mode.strict_obstacles spots → length spots ≤ quota
+      → PieceKept ctx policy pillars piece quota spots
   kept_piece spots m k l =
       record {
-        exact = every_weaken (Stands piece (inset ctx)) Exact spots (λ p s. record { across = (m.sited p s).across.num; along = (m.sited p s).along.num }) k.insets;
+        exact =
+            every_weaken (Stands piece (inset ctx)) Exact spots (λ p s. record { across = (m.sited p s).across.num; along = (m.sited p s).along.num }) k.insets;
         insets = every_weaken (Stands piece (inset ctx)) (Inset piece (inset ctx)) spots (λ p s. s.deep) k.insets;
         known = m.length;
         spaced = pairwise_by (Stands piece (inset ctx)) (Apart (spacing ctx)) (FarApart (spacing ctx)) (λ p q a b h. h.far) spots k.insets k.apart;
-        clear = λ e. every_weaken (Unblocked near (inset ctx)) (λ (p : Point). Every (Away (inset ctx) p) near) spots (λ p t. away (inset ctx) p near t) (k.unblocked (strict e));
+        clear =
+            λ e. every_weaken (Unblocked near (inset ctx)) (λ (p : Point). Every (Away (inset ctx) p) near) spots (λ p t. away (inset ctx) p near t)
+            (k.unblocked (strict e));
         within = l;
       }
 
@@ -90,7 +97,9 @@ module _ (ctx : PackCtx) (policy : ObstaclePolicy) (strict : policy ≡ Strict �
     uniform_kept rectangular (Found x y d) s = around_kept rectangular x y s
 
     from_kept : (anchor : Option Point) → AnchorFits anchor → Claimed (pack_scatter anchor piece quota ctx pillars)
-    from_kept anchor f = kept_piece (pack_scatter anchor piece quota ctx pillars) m (scatter_kept anchor f piece quota ctx pillars m) (scatter_count anchor f piece quota ctx pillars m)
+    from_kept anchor f =
+        kept_piece (pack_scatter anchor piece quota ctx pillars) m (scatter_kept anchor f piece quota ctx pillars m)
+        (scatter_count anchor f piece quota ctx pillars m)
 
     lone_fits : (x y : Float) → SitedAt (Found x y x) → AnchorFits (lone_anchor (point x y) piece quota ctx pillars)
     unfolding lone_anchor
@@ -109,14 +118,17 @@ module _ (ctx : PackCtx) (policy : ObstaclePolicy) (strict : policy ≡ Strict �
     low_kept (Found x y d) s = from_kept (lone_anchor (point x y) piece quota ctx pillars) (lone_fits x y s)
 
     -- ONE PIECE, whichever the arrangement
-    pub piece_kept : (room : ℕ) (numbers : Spreading) (options : GlyphOptions) (arrangement : GlyphArrangement) (rng : Stream) → PieceKnown piece → Claimed (pack_piece room numbers options arrangement ctx pillars piece quota rng).placed
+    pub piece_kept :
+        (room : ℕ) (numbers : Spreading) (options : GlyphOptions) (arrangement : GlyphArrangement) (rng : Stream) → PieceKnown piece
+        → Claimed (pack_piece room numbers options arrangement ctx pillars piece quota rng).placed
     unfolding pack_piece
     piece_kept room numbers options Uniform rng k = uniform_kept false (deepest_of room options piece) (deepest_sited room options.precision piece k)
     piece_kept room numbers options Rectangular rng k = uniform_kept true (deepest_of room options piece) (deepest_sited room options.precision piece k)
     piece_kept room numbers options LowDiscrepancy rng k = low_kept (deepest_of room options piece) (deepest_sited room options.precision piece k)
     piece_kept room numbers options Random rng k =
         let n = options.max_attempts in
-        kept_piece (pack_random_piece numbers piece quota n ctx pillars rng).placed m (darts_kept numbers piece quota n ctx pillars m rng spread) (darts_count numbers piece quota n ctx pillars m rng)
+        kept_piece (pack_random_piece numbers piece quota n ctx pillars rng).placed m (darts_kept numbers piece quota n ctx pillars m rng spread)
+        (darts_count numbers piece quota n ctx pillars m rng)
 
 -- ---- all pieces of a zone
 
@@ -125,28 +137,44 @@ strict_mode : (options : GlyphOptions) → options.obstacle_policy ≡ Strict �
 strict_mode options e =
     subst
     (λ (p : ObstaclePolicy).
-    T (pack (record { arrangement = options.arrangement; radius = options.radius; gap = options.gap; boundary_gap = options.boundary_gap; seed = options.seed; precision = options.precision; max_attempts = options.max_attempts; obstacle_policy = p })).strict_obstacles)
+    T (pack (record {
+      arrangement = options.arrangement;
+      radius = options.radius;
+      gap = options.gap;
+      boundary_gap = options.boundary_gap;
+      seed = options.seed;
+      precision = options.precision;
+      max_attempts = options.max_attempts;
+      obstacle_policy = p;
+    })).strict_obstacles)
     (sym e) tt
 
-module _ (room : ℕ) (numbers : Spreading) (options : GlyphOptions) (pillars : List Rectangle) (radius : Float) (measured : (piece : Piece) → PieceKnown piece → Measures piece (context options pillars radius)) where
+module _
+    (room : ℕ) (numbers : Spreading) (options : GlyphOptions) (pillars : List Rectangle) (radius : Float)
+    (measured : (piece : Piece) → PieceKnown piece → Measures piece (context options pillars radius)) where
   abbrev ctx : PackCtx
   ctx = context options pillars radius
 
   abbrev Own : List Piece → List ℕ → List (List Point) → Type 0
   Own pieces quotas spots = OwnPieces options pillars radius pieces quotas spots
 
-  pieces_kept : (pieces : List Piece) → All PieceKnown pieces → (quotas : List ℕ) (rng : Stream) → Own pieces quotas (pack_pieces room numbers options ctx pillars pieces quotas rng)
+  pieces_kept :
+      (pieces : List Piece) → All PieceKnown pieces → (quotas : List ℕ) (rng : Stream)
+      → Own pieces quotas (pack_pieces room numbers options ctx pillars pieces quotas rng)
   unfolding pack_pieces
   pieces_kept [] k quotas rng = tt
   pieces_kept (piece ∷ pieces) k [] rng = tt
   pieces_kept (piece ∷ pieces) k (quota ∷ quotas) rng =
       let thrown = pack_piece room numbers options options.arrangement ctx pillars piece quota rng in
       go (eqb quota 0) thrown.placed _ _
-      (piece_kept ctx options.obstacle_policy (strict_mode options) pillars piece quota (measured piece k.0) refl room numbers options options.arrangement rng k.0)
+      (piece_kept ctx options.obstacle_policy (strict_mode options) pillars piece quota
+      (measured piece k.0) refl room numbers options options.arrangement rng k.0)
       (pieces_kept pieces k.1 quotas rng)
       (pieces_kept pieces k.1 quotas thrown.rng)
     where
-      go : (t : Bool) (spots : List Point) (without after : List (List Point)) → PieceKept ctx options.obstacle_policy pillars piece quota spots → Own pieces quotas without → Own pieces quotas after
+      go :
+          (t : Bool) (spots : List Point) (without after : List (List Point)) → PieceKept ctx options.obstacle_policy pillars piece quota spots
+          → Own pieces quotas without → Own pieces quotas after
           → Own (piece ∷ pieces) (quota ∷ quotas) (cond t ([] ∷ without) (spots ∷ after))
       go true spots without after h w a = (no_spots ctx options.obstacle_policy (strict_mode options) pillars piece quota (measured piece k.0), w)
       go false spots without after h w a = (h, a)

@@ -30,11 +30,15 @@ use Rattle.claims.specs.Chosen.{TopKnown, SizingUsable}
 use Rattle.claims.proofs.Chosen.{sizing_usable}
 use Rattle.claims.specs.Placings.{LeftIn}
 
-same_zones : (f : Zone → List (List Point)) (zones : List Zone) → map (λ (placed : Placed). placed.zone) (map (λ (zone : Zone). record { zone = zone; spots = f zone }) zones) ≡ zones
+same_zones :
+    (f : Zone → List (List Point)) (zones : List Zone)
+    → map (λ (placed : Placed). placed.zone) (map (λ (zone : Zone). record { zone = zone; spots = f zone }) zones) ≡ zones
 same_zones f [] = refl
 same_zones f (zone ∷ zones) = ap (λ (later : List Zone). zone ∷ later) (same_zones f zones)
 
-module _ (most : ℕ) (big : 1024 ≤ most) (few : most ≤ 1084) (numbers : Spreading) (options : GlyphOptions) (o : OptionsKnown options) (given : List Rectangle) (zones : List Zone) (k : Every LeftIn (work_of zones)) where
+module _
+    (most : ℕ) (big : 1024 ≤ most) (few : most ≤ 1084) (numbers : Spreading) (options : GlyphOptions) (o : OptionsKnown options) (given : List Rectangle)
+    (zones : List Zone) (k : Every LeftIn (work_of zones)) where
   abbrev Own : Float → Placed → Type 0
   Own radius placed = OwnPieces options (sanitize_obstacles given) radius placed.zone.pieces (quotas placed.zone) placed.spots
 
@@ -68,7 +72,9 @@ module _ (most : ℕ) (big : 1024 ≤ most) (few : most ≤ 1084) (numbers : Spr
         fit = u.sized.num.fit;
       }
 
-  sized : TopKnown most options.radius (analytic_r_hi room (work_of zones) (boundary_gap_of options) options.precision) → SizingUsable most (sizing room numbers options given zones)
+  sized :
+      TopKnown most options.radius (analytic_r_hi room (work_of zones) (boundary_gap_of options) options.precision)
+      → SizingUsable most (sizing room numbers options given zones)
   unfolding sizing
   sized t = sizing_usable most big (omega (arith, few)) (feasible room numbers options (work_of zones)) (sanitize_obstacles given) options.radius o.radius _ t
 
@@ -82,7 +88,9 @@ module _ (most : ℕ) (big : 1024 ≤ most) (few : most ≤ 1084) (numbers : Spr
   stated_fits (Stated r) s = max_fits r 0ᶠ (rw s.is (div-fits binary64 _ _)) zero_num.fit
 
   -- ALL ZONES
-  pub placements_kept : TopKnown most options.radius (analytic_r_hi room (work_of zones) (boundary_gap_of options) options.precision) → PlacementsKept (place_glyphs room numbers options given zones)
+  pub placements_kept :
+      TopKnown most options.radius (analytic_r_hi room (work_of zones) (boundary_gap_of options) options.precision)
+      → PlacementsKept (place_glyphs room numbers options given zones)
   unfolding place_glyphs
   placements_kept t = go (eqb (length (work_of zones)) 0) (eqb→eq (length (work_of zones)) 0)
     where
@@ -93,6 +101,8 @@ module _ (most : ℕ) (big : 1024 ≤ most) (few : most ≤ 1084) (numbers : Spr
       nothing [] e = refl
       nothing (zone ∷ work) e = absurd (omega (arith, e))
 
-      go : (b : Bool) → (T b → length (work_of zones) ≡ 0) → PlacementsKept (cond b alone (pack_at room numbers options given zones (sizing room numbers options given zones)))
+      go :
+          (b : Bool) → (T b → length (work_of zones) ≡ 0)
+          → PlacementsKept (cond b alone (pack_at room numbers options given zones (sizing room numbers options given zones)))
       go true e = record { same = nothing (work_of zones) (e tt); own = tt; fit = stated_fits options.radius o.radius }
       go false e = packed (sizing room numbers options given zones) (sized t)

@@ -84,14 +84,21 @@ module _ (r-hi : Float) (c : Ceiling r-hi) where
       record {
         sized = wider (omega arith) s;
         nonneg = product_nonneg ½ᶠ r (½ᶠ *ᶠ r) p half_nonneg f.nonneg;
-        least = le_trans (le_of_eq (sym fine_is)) (mul-le-mul_right 2097152 (p.least fine fine_digits (enough fine (mag ½ᶠ) (mag r) U half_twice fine_is (omega (arith, f.low, c.least)))));
+        least =
+            le_trans (le_of_eq (sym fine_is))
+            (mul-le-mul_right 2097152 (p.least fine fine_digits (enough fine (mag ½ᶠ) (mag r) U half_twice fine_is (omega (arith, f.low, c.least)))));
       }
 
   -- the greater of two, of which the second will do
   greater : (a b : Float) (k : ℕ) → Sized a k → Nonneg a → Usable b k → Usable (max a b) k
   greater a b k A o h = elim (max_case a b A.num h.sized.num) [
     | inl m ↦ rw m.0 h
-    | inr m ↦ rw m.0 (record { sized = A; nonneg = o; least = le_trans h.least (mul-le-mul_right 2097152 (omega (arith, m.1, plain (sgn a) (mag a) o, plain (sgn b) (mag b) h.nonneg))) })
+    | inr m ↦ rw m.0
+        (record {
+          sized = A;
+          nonneg = o;
+          least = le_trans h.least (mul-le-mul_right 2097152 (omega (arith, m.1, plain (sgn a) (mag a) o, plain (sgn b) (mag b) h.nonneg)));
+        })
   ]
 
   walled : (best : Option Float) (b : Float) (k : ℕ) → Sized r-hi k → Good r-hi c best → Usable b k → Usable (max (unwrap_or best 0ᶠ) b) k
@@ -117,6 +124,10 @@ module _ (fit : List Rectangle → Float → Bool) (obstacles : List Rectangle) 
       w = walled r-hi c (best obstacles) (½ᶠ *ᶠ r_free) k S (searched (fit obstacles) r-hi c) (halved r-hi c r_free k few S f)
 
       go : (t : Bool) → Usable (cond {A = Size} t (record { radius = r_free; free_trials = (auto_radius (fit []) r-hi).trials; obstacle_trials = 0 })
-          (record { radius = max (unwrap_or (best obstacles) 0ᶠ) (½ᶠ *ᶠ r_free); free_trials = (auto_radius (fit []) r-hi).trials; obstacle_trials = (auto_radius (fit obstacles) r-hi).trials })).radius k
+          (record {
+            radius = max (unwrap_or (best obstacles) 0ᶠ) (½ᶠ *ᶠ r_free);
+            free_trials = (auto_radius (fit []) r-hi).trials;
+            obstacle_trials = (auto_radius (fit obstacles) r-hi).trials;
+          })).radius k
       go true = usable r-hi c r_free k S f
       go false = w

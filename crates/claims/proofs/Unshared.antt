@@ -1,4 +1,4 @@
--- Quotas where there are no shares. No sum above 0, or a NaN: all to the first. An infinite sum, as of an infinite weight: one each to the first, as far as the count goes, so that they may sum short.
+-- Quotas where there are no shares. No sum above 0, or a NaN: all to the first. An infinite sum: one each to the first, as far as the count goes.
 -- Rests on `HandOut`, and on 0 / ∞ and the like being 0.
 use Rattle.std.specs.Prelude.{◌≡◌, Bool, true, false, T, ltb, pos, get_or, Float}
 use Rattle.std.proofs.Math.Path.{refl, sym, ap}
@@ -72,7 +72,8 @@ unfolding floor
 nought_floor nan p = absurd p.num.fine
 nought_floor (inf s) p = absurd p.num.fine
 nought_floor (fin s zero e) p = refl
-nought_floor (fin s (suc m) e) p = absurd (clash (suc m * up e) (mag (fin s (suc m) e)) (down e) (mul-pos (omega arith) (up_pos e)) p.size (own (fin s (suc m) e) p.num).1)
+nought_floor (fin s (suc m) e) p =
+    absurd (clash (suc m * up e) (mag (fin s (suc m) e)) (down e) (mul-pos (omega arith) (up_pos e)) p.size (own (fin s (suc m) e) p.num).1)
   where
     clash : (a g d : ℕ) → 0 < a → g ≡ 0 → a * U ≡ g * d → ⊥
     clash a g d a0 e h = omega (arith, mul-pos a0 U_pos, rw e at h)
@@ -114,7 +115,11 @@ module _ (n : ℕ) (weights : List Float) (n0 : n ≤ 2000) (ms : Masses weights
   by_index : (i j : ℕ) → i < length weights → j < length weights → by_remainder (rems n (inf false) weights) j i ≡ compare j i
   by_index i j l k =
       by_keys n (inf false) weights i j nan l k
-      ∙ rw (no_remainder n (get_or weights i nan) n0 (mass_at weights ms i l), no_remainder n (get_or weights j nan) n0 (mass_at weights ms j k), compared (total_key 0ᶠ) (total_key 0ᶠ) Ordering.eq refl)
+      ∙ rw (
+        no_remainder n (get_or weights i nan) n0 (mass_at weights ms i l),
+        no_remainder n (get_or weights j nan) n0 (mass_at weights ms j k),
+        compared (total_key 0ᶠ) (total_key 0ᶠ) Ordering.eq refl,
+      )
 
   ranked : (i t : ℕ) → i < length weights → t ≤ length weights → rank (by_remainder (rems n (inf false) weights)) i (up_to t) ≡ min t i
   ranked i zero l h = unfold up_to weigh in omega arith
@@ -138,7 +143,12 @@ module _ (n : ℕ) (weights : List Float) (n0 : n ≤ 2000) (ms : Masses weights
     unfolding left_over
     one_each i l =
         let left = left_over n (total weights) weights in
-        rw (apportioned n weights, tabulate_at (quota_of n (total weights) left weights) (length weights) i 0 l, by_rank n (total weights) left weights i some_weight l, t)
+        rw (
+          apportioned n weights,
+          tabulate_at (quota_of n (total weights) left weights) (length weights) i 0 l,
+          by_rank n (total weights) left weights i some_weight l,
+          t,
+        )
         (rw (no_whole n (get_or weights i nan) n0 (mass_at weights ms i l), ranked i (length weights) l (omega arith), no_base) (last (length weights) i l))
       where
         last : (k i : ℕ) → i < k → 0 + cond (ltb (min k i) (n - 0)) 1 0 ≡ cond (ltb i n) 1 0
@@ -150,7 +160,8 @@ module _ (n : ℕ) (weights : List Float) (n0 : n ≤ 2000) (ms : Masses weights
       | inl e ↦ rw (eq-eqb (length weights) 0 e) (unfold assigned in omega (arith, e))
       | inr l ↦
           rw (ne_eqb (length weights) 0 (λ (z : length weights ≡ 0). omega (arith, l, z)), some_weight, t)
-          (handed_sum (base n (inf false) weights) (rems n (inf false) weights) (n - assigned (base n (inf false) weights)) (unfold base rems in (length-map weights (whole_share n (inf false)) ∙ sym (length-map weights (remainder n (inf false)))))
+          (handed_sum (base n (inf false) weights) (rems n (inf false) weights) (n - assigned (base n (inf false) weights))
+          (unfold base rems in (length-map weights (whole_share n (inf false)) ∙ sym (length-map weights (remainder n (inf false)))))
           ∙ rw (no_base, length_rems) (omega arith))
     ]
       where

@@ -26,7 +26,9 @@ use Rattle.claims.specs.Widened.{Widened, diagonal}
 
 -- ---- a bisection
 module _ (piece : Piece) (n : ℕ) (ctx : PackCtx) (rectangular : Bool) (near : List Rectangle) (anchor : Point) (honoring : Bool) (s_max : Float) where
-  turn : (lo hi : Float) (stop fit : Bool) (wide narrow : Float) → Sized lo 65536 → Nonneg lo → mag lo ≤ mag hi → Middle lo hi wide 65536 → Middle lo hi narrow 65536 → Middle lo hi (cond stop lo (cond fit wide narrow)) 65536
+  turn :
+      (lo hi : Float) (stop fit : Bool) (wide narrow : Float) → Sized lo 65536 → Nonneg lo → mag lo ≤ mag hi → Middle lo hi wide 65536
+      → Middle lo hi narrow 65536 → Middle lo hi (cond stop lo (cond fit wide narrow)) 65536
   turn lo hi true fit wide narrow L o h w v = record { sized = L; nonneg = o; low = omega arith; high = h }
   turn lo hi false true wide narrow L o h w v = w
   turn lo hi false false wide narrow L o h w v = v
@@ -49,7 +51,8 @@ record Diagonal (d : Float) : Type 0 where
   sized : Sized d 2897
   nonneg : Nonneg d
 
-diagonal_law : (min-x max-x min-y max-y : Float) → Sized min-x 1024 → Sized max-x 1024 → Sized min-y 1024 → Sized max-y 1024 → Diagonal (diagonal min-x max-x min-y max-y)
+diagonal_law :
+    (min-x max-x min-y max-y : Float) → Sized min-x 1024 → Sized max-x 1024 → Sized min-y 1024 → Sized max-y 1024 → Diagonal (diagonal min-x max-x min-y max-y)
 diagonal_law min-x max-x min-y max-y a b c d =
     let w = max-x -ᶠ min-x in
     let h = max-y -ᶠ min-y in
@@ -65,7 +68,9 @@ longer s w L W o f l = record { length = record { sized = W; nonneg = o; least =
 top : (d s : Float) → Diagonal d → Length s → mag s ≤ 36864 * U → Widened s (max d s)
 top d s D L B = elim (max_case d s D.sized.num L.sized.num) [
   | inl c ↦ rw c.0 (longer s s L L.sized L.nonneg B (omega arith))
-  | inr c ↦ rw c.0 (longer s d L (wider (lit≤ tt) D.sized) D.nonneg (omega (arith, D.sized.size)) (omega (arith, c.1, plain (sgn d) (mag d) D.nonneg, plain (sgn s) (mag s) L.nonneg)))
+  | inr c ↦ rw c.0
+      (longer s d L (wider (lit≤ tt) D.sized) D.nonneg (omega (arith, D.sized.size))
+      (omega (arith, c.1, plain (sgn d) (mag d) D.nonneg, plain (sgn s) (mag s) L.nonneg)))
 ]
 
 module _
@@ -75,7 +80,10 @@ module _
   abbrev s_max : Float
   s_max = diagonal min-x max-x min-y max-y
 
-  pub widened : Widened s (cond (fits_at piece n ctx rectangular near anchor honoring (max s_max s)) (max s_max s) (widen piece n ctx rectangular near anchor honoring s_max 24 s (max s_max s)))
+  pub widened :
+      Widened s
+      (cond (fits_at piece n ctx rectangular near anchor honoring (max s_max s)) (max s_max s)
+      (widen piece n ctx rectangular near anchor honoring s_max 24 s (max s_max s)))
   widened = go (fits_at piece n ctx rectangular near anchor honoring (max s_max s))
     where
       hi : Widened s (max s_max s)
@@ -84,5 +92,6 @@ module _
       go : (b : Bool) → Widened s (cond b (max s_max s) (widen piece n ctx rectangular near anchor honoring s_max 24 s (max s_max s)))
       go true = hi
       go false =
-          let m = widen_between piece n ctx rectangular near anchor honoring s_max 24 s (max s_max s) L.sized hi.length.sized L.nonneg hi.length.nonneg hi.least in
+          let m =
+          widen_between piece n ctx rectangular near anchor honoring s_max 24 s (max s_max s) L.sized hi.length.sized L.nonneg hi.length.nonneg hi.least in
           longer s _ L m.sized m.nonneg (le_trans m.high hi.few) m.low

@@ -38,7 +38,8 @@ module _ (s : Float) (aligned : Bool) (anchor : Point) (L : Length s) (AX : Size
 
 cells_apart :
     (s : Float) (aligned : Bool) (anchor : Point) (L : Length s) (AX : Sized anchor.x 65536) (AY : Sized anchor.y 65536) (i j i' j' : ℤ)
-    → Reach i s → Reach j (row_height (record { spacing = s; rectangular = aligned })) → Reach i' s → Reach j' (row_height (record { spacing = s; rectangular = aligned }))
+    → Reach i s → Reach j (row_height (record { spacing = s; rectangular = aligned })) → Reach i' s
+    → Reach j' (row_height (record { spacing = s; rectangular = aligned }))
     → (i ≡ i' → j ≡ j' → ⊥) → Apart s (cell s aligned anchor L AX AY i j) (cell s aligned anchor L AX AY i' j')
 unfolding cell row_offset is_shifted row_height
 cells_apart s true anchor L AX AY i j i' j' ri rj ri' rj' n = rectangular s anchor.x anchor.y L AX AY i j i' j' ri rj ri' rj' n
@@ -46,7 +47,9 @@ cells_apart s false anchor L AX AY i j i' j' ri rj ri' rj' n =
     rw (← same_remainder j, ← same_remainder j') (unfold odd in hexagonal s anchor.x anchor.y L AX AY i j i' j' ri rj ri' rj' n)
 
 -- the row height is a step of the walk too
-row_step : (s : Float) (aligned : Bool) → Length s → mag s ≤ 36864 * U → Step (row_height (record { spacing = s; rectangular = aligned })) × (mag (row_height (record { spacing = s; rectangular = aligned })) ≤ 36864 * U)
+row_step :
+    (s : Float) (aligned : Bool) → Length s → mag s ≤ 36864 * U
+    → Step (row_height (record { spacing = s; rectangular = aligned })) × (mag (row_height (record { spacing = s; rectangular = aligned })) ≤ 36864 * U)
 unfolding row_height
 row_step s true L B = (length_step L, B)
 row_step s false L B = let r = row_law s L in (r.step, omega (arith, r.low, B))
@@ -82,7 +85,8 @@ module _
   every_row : (P : Point → Type 0) (j : ℤ) → ((i : ℤ) → Reach i s → P (place i j)) → Every P (row_cells lat anchor min-x max-x j)
   unfolding row_cells cell
   every_row P j f =
-      every_map P (λ (i : ℤ). point (anchor.x +ᶠ row_offset lat j +ᶠ i64_as_f64 i *ᶠ s) (anchor.y +ᶠ i64_as_f64 j *ᶠ row_height lat)) (through (i_min j) (i_max j))
+      every_map P (λ (i : ℤ). point (anchor.x +ᶠ row_offset lat j +ᶠ i64_as_f64 i *ᶠ s) (anchor.y +ᶠ i64_as_f64 j *ᶠ row_height lat))
+      (through (i_min j) (i_max j))
       (every_through (i_min j) (i_max j) (λ (i : ℤ). P (place i j)) (λ i p q. f i (cell_reach j i p q)))
 
   every_later : (P : Point → Type 0) (js : List ℤ) → Every (λ (j : ℤ). (i : ℤ) → Reach i s → P (place i j)) js → Every P (later js)
@@ -96,7 +100,8 @@ module _
   one_row : (j : ℤ) → RowReach j → Pairwise (Apart s) (row_cells lat anchor min-x max-x j)
   unfolding row_cells cell
   one_row j r =
-      pairwise_map (Apart s) (λ (i : ℤ). point (anchor.x +ᶠ row_offset lat j +ᶠ i64_as_f64 i *ᶠ s) (anchor.y +ᶠ i64_as_f64 j *ᶠ row_height lat)) (through (i_min j) (i_max j))
+      pairwise_map (Apart s) (λ (i : ℤ). point (anchor.x +ᶠ row_offset lat j +ᶠ i64_as_f64 i *ᶠ s) (anchor.y +ᶠ i64_as_f64 j *ᶠ row_height lat))
+      (through (i_min j) (i_max j))
       (pairwise_through (i_min j) (i_max j) (λ (i i' : ℤ). Apart s (place i j) (place i' j))
       (λ i i' p q p' q' n. cells_apart s aligned anchor L AX AY i j i' j (cell_reach j i p q) r (cell_reach j i' p' q') r (λ e f. n e)))
 
@@ -106,7 +111,9 @@ module _
       pairwise_append (Apart s) (row_cells lat anchor min-x max-x j) (later js) (one_row j h.0) (rows js h.1 p.1)
       (every_row (λ (c : Point). Every (Apart s c) (later js)) j (λ i r. every_later (Apart s (place i j)) js (others i r js h.1 p.0)))
     where
-      others : (i : ℤ) → Reach i s → (ks : List ℤ) → Every RowReach ks → Every (λ (k : ℤ). j ≡ k → ⊥) ks → Every (λ (k : ℤ). (i' : ℤ) → Reach i' s → Apart s (place i j) (place i' k)) ks
+      others :
+          (i : ℤ) → Reach i s → (ks : List ℤ) → Every RowReach ks → Every (λ (k : ℤ). j ≡ k → ⊥) ks
+          → Every (λ (k : ℤ). (i' : ℤ) → Reach i' s → Apart s (place i j) (place i' k)) ks
       others i r [] g d = tt
       others i r (k ∷ ks) g d = (λ i' r'. cells_apart s aligned anchor L AX AY i j i' k r h.0 r' g.0 (λ e f. d.0 f), others i r ks g.1 d.1)
 

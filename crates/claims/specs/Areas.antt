@@ -42,16 +42,21 @@ module _ (v : Ring) (k : RingKnown v) where
   y_sized : (i : ℕ) → i < vertices v → Sized (y_at v i) 1024
   y_sized i h = coordinate_sized (vertex_y v k i h)
 
-  step_sized : (area ax ay bx by : Float) (a : ℕ) → Sized area a → a ≤ 1073741824 → Sized ax 1024 → Sized ay 1024 → Sized bx 1024 → Sized by 1024 → Sized (area_step area ax ay bx by) (a + 1048576 + 1048576)
+  step_sized :
+      (area ax ay bx by : Float) (a : ℕ) → Sized area a → a ≤ 1073741824 → Sized ax 1024 → Sized ay 1024 → Sized bx 1024 → Sized by 1024
+      → Sized (area_step area ax ay bx by) (a + 1048576 + 1048576)
   unfolding area_step
-  step_sized area ax ay bx by a s h ax' ay' bx' by' = sub_sized (add_sized s (mul_sized ax' by' (lit< tt)) (omega arith)) (mul_sized bx' ay' (lit< tt)) (omega arith)
+  step_sized area ax ay bx by a s h ax' ay' bx' by' =
+      sub_sized (add_sized s (mul_sized ax' by' (lit< tt)) (omega arith)) (mul_sized bx' ay' (lit< tt)) (omega arith)
 
   after_sized : (i : ℕ) → i ≤ vertices v → Sized (area_after v (vertices v) i) (i * 2097152)
   unfolding area_after
   after_sized zero h = wider (omega arith) zero_sized
   after_sized (suc i) h =
       let n = next_within (vertices v) i h in
-      wider (omega arith) (step_sized _ _ _ _ _ (i * 2097152) (after_sized i (omega arith)) (omega (arith, k.few)) (x_sized i h) (y_sized i h) (x_sized (next (vertices v) i) n) (y_sized (next (vertices v) i) n))
+      wider (omega arith)
+      (step_sized _ _ _ _ _ (i * 2097152) (after_sized i (omega arith)) (omega (arith, k.few)) (x_sized i h) (y_sized i h) (x_sized (next (vertices v) i) n)
+      (y_sized (next (vertices v) i) n))
 
   ring_sized : Sized (shoelace_area v) 536870912
   unfolding shoelace_area
@@ -65,7 +70,9 @@ module _ (v : Ring) (k : RingKnown v) where
       go false = record { num = abs_num _ half.num; size = rw (abs_mag (area_after v (vertices v) (vertices v) /ᶠ 2ᶠ)) half.size }
 
 -- ---- a piece
-holes_sized : (rings : List Ring) → All RingKnown rings → (sum : Float) (a : ℕ) → Sized sum a → a + length rings * 536870912 < 8589934592 → Sized (area_sum sum rings) (a + length rings * 536870912)
+holes_sized :
+    (rings : List Ring) → All RingKnown rings → (sum : Float) (a : ℕ) → Sized sum a → a + length rings * 536870912 < 8589934592
+    → Sized (area_sum sum rings) (a + length rings * 536870912)
 unfolding area_sum
 holes_sized [] k sum a s h = wider (omega arith) s
 holes_sized (ring ∷ rings) k sum a s h =
@@ -78,7 +85,10 @@ minus_sized = record { num = minus_zero.num; size = lit≤ tt }
 sum_sized : (piece : Piece) → PieceKnown piece → Sized (area_sum -0ᶠ (holes piece)) 4294967296
 unfolding holes
 sum_sized [] k = absurd (omega (arith, k.some))
-sum_sized (ring ∷ rings) k = let f : length rings ≤ 8 = omega (arith, k.few) in wider (omega (arith, f)) (holes_sized rings k.rings.1 -0ᶠ 0 minus_sized (omega (arith, f)))
+sum_sized (ring ∷ rings) k = let f : length rings ≤ 8 = omega (
+  arith,
+  k.few,
+) in wider (omega (arith, f)) (holes_sized rings k.rings.1 -0ᶠ 0 minus_sized (omega (arith, f)))
 
 max_sized : (x : Float) (k : ℕ) → Sized x k → Sized (max x 0ᶠ) k
 max_sized x k s = elim (max_case x 0ᶠ s.num zero_sized.num) [ inl c ↦ rw c.0 (wider (omega arith) zero_sized) | inr c ↦ rw c.0 s ]

@@ -14,7 +14,9 @@ from_crossing X R a b = X ⊗ nat (a + b) ⊖ nat a ⊗ R
 pub equal_products : (A A' B B' : Exact) → A ≈ A' → B ≈ B' → A ⊗ B ≈ A' ⊗ B'
 equal_products A A' B B' e f = omega (arith, ap (λ (z : ℕ). z * B.p) e, ap (λ (z : ℕ). z * B.n) e, ap (λ (z : ℕ). z * A'.p) f, ap (λ (z : ℕ). z * A'.n) f)
 
-module _ (s : Bool) (X R g v dx dy : Exact) (a b K : ℕ) (w0 : 0 < a + b) (g-is : g ≈ X ⊖ R) (v-is : v ≈ signed (not s) b) (dx-is : dx ≈ opp R) (dy-is : dy ≈ signed (not s) (a + b)) where
+module _
+    (s : Bool) (X R g v dx dy : Exact) (a b K : ℕ) (w0 : 0 < a + b) (g-is : g ≈ X ⊖ R) (v-is : v ≈ signed (not s) b) (dx-is : dx ≈ opp R)
+    (dy-is : dy ≈ signed (not s) (a + b)) where
   heights : (s : Bool) (P : Exact) → P ≈ signed (not s) (a + b) ⊗ signed (not s) (a + b) → P ≈ nat ((a + b) * (a + b))
   heights true P h = omega arith
   heights false P h = omega arith
@@ -24,7 +26,8 @@ module _ (s : Bool) (X R g v dx dy : Exact) (a b K : ℕ) (w0 : 0 < a + b) (g-is
   parts false P h = (omega arith, omega arith)
 
   crossed_by :
-      (s : Bool) (P Q : Exact) (m : ℕ) → P ≈ (X ⊖ R) ⊗ signed (not s) (a + b) → Q ≈ signed (not s) b ⊗ opp R → from_crossing X R a b ≼ nat m → opp (from_crossing X R a b) ≼ nat m
+      (s : Bool) (P Q : Exact) (m : ℕ) → P ≈ (X ⊖ R) ⊗ signed (not s) (a + b) → Q ≈ signed (not s) b ⊗ opp R → from_crossing X R a b ≼ nat m
+      → opp (from_crossing X R a b) ≼ nat m
       → (P ⊖ Q ≼ nat m) × (opp (P ⊖ Q) ≼ nat m)
   crossed_by true P Q m p q h k = (omega arith, omega arith)
   crossed_by false P Q m p q h k = (omega arith, omega arith)
@@ -32,7 +35,9 @@ module _ (s : Bool) (X R g v dx dy : Exact) (a b K : ℕ) (w0 : 0 < a + b) (g-is
   pub across : from_crossing X R a b ≼ nat (K * (a + b)) → opp (from_crossing X R a b) ≼ nat (K * (a + b)) → Across g v dx dy (a + b) K
   across h k =
       let p = parts s (v ⊗ dy) (equal_products v (signed (not s) b) dy (signed (not s) (a + b)) v-is dy-is) in
-      let c = crossed_by s (g ⊗ dy) (v ⊗ dx) (K * (a + b)) (equal_products g (X ⊖ R) dy (signed (not s) (a + b)) g-is dy-is) (equal_products v (signed (not s) b) dx (opp R) v-is dx-is) h k in
+      let c =
+      crossed_by s (g ⊗ dy) (v ⊗ dx) (K * (a + b)) (equal_products g (X ⊖ R) dy (signed (not s) (a + b)) g-is dy-is)
+      (equal_products v (signed (not s) b) dx (opp R) v-is dx-is) h k in
       record {
         height = heights s (dy ⊗ dy) (equal_products dy (signed (not s) (a + b)) dy (signed (not s) (a + b)) dy-is dy-is);
         above = w0;
@@ -43,7 +48,9 @@ module _ (s : Bool) (X R g v dx dy : Exact) (a b K : ℕ) (w0 : 0 < a + b) (g-is
       }
 
 -- ---- the crossing is near the computed one, c = i + q, and within 1,024 u; the place is x
-module _ (x i j q c R : Exact) (a b u : ℕ) (R-is : R ≈ j ⊖ i) (low : nat (a + b) ⊗ q ≼ nat a ⊗ R ⊕ nat (u * (a + b))) (high : nat a ⊗ R ≼ nat (a + b) ⊗ q ⊕ nat (u * (a + b))) (below : c ≼ q ⊕ i ⊕ nat u) (above : q ⊕ i ≼ c ⊕ nat u)
+module _
+    (x i j q c R : Exact) (a b u : ℕ) (R-is : R ≈ j ⊖ i) (low : nat (a + b) ⊗ q ≼ nat a ⊗ R ⊕ nat (u * (a + b)))
+    (high : nat a ⊗ R ≼ nat (a + b) ⊗ q ⊕ nat (u * (a + b))) (below : c ≼ q ⊕ i ⊕ nat u) (above : q ⊕ i ≼ c ⊕ nat u)
     (i-low : opp i ≼ nat (1024 * u)) (i-high : i ≼ nat (1024 * u)) (j-low : opp j ≼ nat (1024 * u)) (j-high : j ≼ nat (1024 * u)) where
   -- the exact crossing, times the rise
   crossing_high : i ⊗ nat (a + b) ⊕ nat a ⊗ R ≼ nat (1024 * u * (a + b))

@@ -44,7 +44,9 @@ module _ (v : Ring) (r : RingKnown v) where
       same : x ≡ bounds → Boxed x.min_x x.max_x x.min_y x.max_y → Boxed bounds.min_x bounds.max_x bounds.min_y bounds.max_y
       same q s = subst (λ (z : Extents). Boxed z.min_x z.max_x z.min_y z.max_y) q s
 
-      go : (few wide : Bool) → (few ≡ false → 3 ≤ n) → cond few None (cond wide (Some x) None) ≡ Some bounds → Boxed bounds.min_x bounds.max_x bounds.min_y bounds.max_y
+      go :
+          (few wide : Bool) → (few ≡ false → 3 ≤ n) → cond few None (cond wide (Some x) None) ≡ Some bounds
+          → Boxed bounds.min_x bounds.max_x bounds.min_y bounds.max_y
       go true wide t q = let z : ◌≡◌ {A = ℕ} 0 1 = cc in absurd (omega arith)
       go false true t q = let p : x ≡ bounds = cc in same p (sides (t refl))
       go false false t q = let z : ◌≡◌ {A = ℕ} 0 1 = cc in absurd (omega arith)

@@ -1,4 +1,4 @@
--- THE RADIUS OF A JOB: where spots are placed it is 2 ^ -21 at least and k at most, for a stated radius of at most 1,024 in 1/1024 and a ceiling of 2 ^ -10 at least and k at most.
+-- THE RADIUS OF A JOB: where spots are placed it is from 2 ^ -21 to k, for a stated radius up to 1,024 in 1/1024 and a ceiling from 2 ^ -10 to k.
 -- Rests on the law of the radius under a ceiling.
 use Rattle.std.specs.Prelude.{Float, None, Some, Option}
 use Prim.Native.Nat.{ℕ, ◌*◌, ◌^◌, ◌≤◌}

@@ -63,7 +63,7 @@ pub record PieceKept (ctx : PackCtx) (policy : ObstaclePolicy) (pillars : List R
   -- no more spots than the quota
   pub within : length spots ≤ quota
 
--- ---- a zone left in: the job's options and pillars, the sheet's radius, the spots that the packer's definition places in each of its pieces, and its entry in the sheet
+-- ---- a zone left in: the job's options and pillars, the sheet's radius, the spots that the packer's definition places in its pieces, and its entry
 module _ (options : GlyphOptions) (pillars : List Rectangle) (radius : Float) where
   -- r is the sheet's radius
   abbrev pub context : PackCtx
@@ -88,7 +88,8 @@ module _ (options : GlyphOptions) (pillars : List Rectangle) (radius : Float) wh
     pub weights : Weights (areas placed.zone.pieces)
     -- where some piece has positive computed area, each quota is less than 1 + 2 ^ -20 away from its exact share, count * area / sum of the areas
     pub fair : (j : ℕ) → j < length placed.zone.pieces → T (get_or (areas placed.zone.pieces) j nan >ᶠ 0ᶠ)
-        → (i : ℕ) → i < length placed.zone.pieces → Fair (get_or (quotas placed.zone) i 0) placed.zone.count (mag (get_or (areas placed.zone.pieces) i nan)) (sum (areas placed.zone.pieces))
+        → (i : ℕ) → i < length placed.zone.pieces
+        → Fair (get_or (quotas placed.zone) i 0) placed.zone.count (mag (get_or (areas placed.zone.pieces) i nan)) (sum (areas placed.zone.pieces))
 
   -- each zone left in with its entry, in order, and no other entry
   abbrev pub Zones : List Placed → List Placement → Type 0

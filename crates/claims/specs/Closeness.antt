@@ -23,20 +23,26 @@ pub close_same : (e : ℕ) (a b a' b' : Exact) → a ≈ a' → b ≈ b' → Clo
 close_same e a b a' b' p q c = go E c
   where
     go : (E : ℕ) → Close E e a b → Close E e a' b'
-    go E c = record { above = omega (arith, c.above, ap (λ (z : ℕ). z * E) p, ap (λ (z : ℕ). z * E) q); below = omega (arith, c.below, ap (λ (z : ℕ). z * E) p, ap (λ (z : ℕ). z * E) q) }
+    go E c =
+        record {
+          above = omega (arith, c.above, ap (λ (z : ℕ). z * E) p, ap (λ (z : ℕ). z * E) q);
+          below = omega (arith, c.below, ap (λ (z : ℕ). z * E) p, ap (λ (z : ℕ). z * E) q);
+        }
 
 pub product_close : {x y z : Float} → Product x y z → Close E (mag x * mag y + U * H) (val z ⊗ nat U) (val x ⊗ val y)
 product_close {x} {y} {z} r =
     let s = sgn z in
     let a = mag x * mag y in
     let c = close_signed E (U * H) (mag z * U) a s r.near in
-    close_same (a + U * H) (signed s (mag z * U)) (signed s a) (val z ⊗ nat U) (val x ⊗ val y) (sign_scaled s (mag z) U) (rw r.sign (signs_agree (sgn x) (sgn y) (mag x) (mag y))) c
+    close_same (a + U * H) (signed s (mag z * U)) (signed s a) (val z ⊗ nat U) (val x ⊗ val y) (sign_scaled s (mag z) U)
+    (rw r.sign (signs_agree (sgn x) (sgn y) (mag x) (mag y))) c
 
 pub quotient_close : {x y z : Float} → Quotient x y z → Close E (mag x * U + mag y * H) (val z ⊗ val y) (val x ⊗ nat U)
 quotient_close {x} {y} {z} r =
     let s = sgn x in
     let c = close_signed E (mag y * H) (mag z * mag y) (mag x * U) s r.near in
-    close_same (mag x * U + mag y * H) (signed s (mag z * mag y)) (signed s (mag x * U)) (val z ⊗ val y) (val x ⊗ nat U) (rw r.sign (twice s (sgn y) (mag z) (mag y))) (sign_scaled s (mag x) U) c
+    close_same (mag x * U + mag y * H) (signed s (mag z * mag y)) (signed s (mag x * U)) (val z ⊗ val y) (val x ⊗ nat U)
+    (rw r.sign (twice s (sgn y) (mag z) (mag y))) (sign_scaled s (mag x) U) c
   where
     twice : (s t : Bool) (m n : ℕ) → signed s (m * n) ≈ signed (unlike s t) m ⊗ signed t n
     twice false false m n = omega arith
@@ -46,8 +52,10 @@ quotient_close {x} {y} {z} r =
 
 -- ---- closeness times a signed number of size m, and of a sum
 pub scaled_sign : (e f : ℕ) (a b : Exact) (s : Bool) (k m : ℕ) → k ≤ m → Close f e a b → Close f (e * m) (a ⊗ signed s k) (b ⊗ signed s k)
-scaled_sign e f a b false k m l c = record { above = omega (arith, mul-le-mul_right k c.above, mul-le-mul_left e l); below = omega (arith, mul-le-mul_right k c.below, mul-le-mul_left e l) }
-scaled_sign e f a b true k m l c = record { above = omega (arith, mul-le-mul_right k c.below, mul-le-mul_left e l); below = omega (arith, mul-le-mul_right k c.above, mul-le-mul_left e l) }
+scaled_sign e f a b false k m l c =
+    record { above = omega (arith, mul-le-mul_right k c.above, mul-le-mul_left e l); below = omega (arith, mul-le-mul_right k c.below, mul-le-mul_left e l) }
+scaled_sign e f a b true k m l c =
+    record { above = omega (arith, mul-le-mul_right k c.below, mul-le-mul_left e l); below = omega (arith, mul-le-mul_right k c.above, mul-le-mul_left e l) }
 
 pub sum_close : (f e e' : ℕ) (a b c d : Exact) → Close f e a b → Close f e' c d → Close f (e + e') (a ⊕ c) (b ⊕ d)
 sum_close f e e' a b c d p q = record { above = omega (arith, p.above, q.above); below = omega (arith, p.below, q.below) }

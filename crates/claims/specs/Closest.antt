@@ -44,7 +44,8 @@ sum_up :
 sum_up AA CC Ac BF BB X Y A' B' a b c m r e f g h h' i i' j k l = omega arith
 
 pub closest :
-    (P Q dx dy : Exact) (w m b r : ℕ) → dy ⊗ dy ≈ nat (w * w) → P ⊗ dy ⊖ Q ⊗ dx ≼ nat m → opp (P ⊗ dy ⊖ Q ⊗ dx) ≼ nat m → (Q ⊗ dy) ⊗ (P ⊗ dx ⊕ Q ⊗ dy) ≼ nat (b * r)
+    (P Q dx dy : Exact) (w m b r : ℕ) → dy ⊗ dy ≈ nat (w * w) → P ⊗ dy ⊖ Q ⊗ dx ≼ nat m → opp (P ⊗ dy ⊖ Q ⊗ dx) ≼ nat m
+    → (Q ⊗ dy) ⊗ (P ⊗ dx ⊕ Q ⊗ dy) ≼ nat (b * r)
     → (abs P * abs P + abs Q * abs Q) * (w * w) ≤ m * m + 2 * (b * r)
 closest P Q dx dy w m b r W h k l =
     let a = abs P * abs P in
@@ -56,8 +57,10 @@ closest P Q dx dy w m b r W h k l =
     let pp : P ⊗ P ≈ nat a = omega (arith, abs_square P) in
     let qq : Q ⊗ Q ≈ nat q = omega (arith, abs_square Q) in
     le_trans (le_of_eq (apart a q (w * w)))
-    (sum_up (A ⊗ A) (C ⊗ C) (A ⊗ C) (B ⊗ F) (B ⊗ B) ((A ⊖ C) ⊗ (A ⊖ C)) (B ⊗ (F ⊕ B)) ((P ⊗ P) ⊗ (dy ⊗ dy)) ((Q ⊗ Q) ⊗ (dy ⊗ dy)) (a * (w * w)) (q * (w * w)) (abs C * abs C) (m * m) (b * r)
-    (less_square A C) (spread B F) (swapped P dy Q dx) (squares P dy) (times (P ⊗ P) (dy ⊗ dy) a (w * w) pp W) (squares Q dy) (times (Q ⊗ Q) (dy ⊗ dy) q (w * w) qq W) (abs_square C) (square_le (A ⊖ C) m h k) l)
+    (sum_up (A ⊗ A) (C ⊗ C) (A ⊗ C) (B ⊗ F) (B ⊗ B) ((A ⊖ C) ⊗ (A ⊖ C)) (B ⊗ (F ⊕ B)) ((P ⊗ P) ⊗ (dy ⊗ dy)) ((Q ⊗ Q) ⊗ (dy ⊗ dy)) (a * (w * w)) (q * (w * w))
+    (abs C * abs C) (m * m) (b * r)
+    (less_square A C) (spread B F) (swapped P dy Q dx) (squares P dy) (times (P ⊗ P) (dy ⊗ dy) a (w * w) pp W) (squares Q dy)
+    (times (Q ⊗ Q) (dy ⊗ dy) q (w * w) qq W) (abs_square C) (square_le (A ⊖ C) m h k) l)
   where
     apart : (a q v : ℕ) → (a + q) * v ≡ a * v + q * v
     apart a q v = omega arith
@@ -68,7 +71,11 @@ pub record Leans (B R : Exact) (b r : ℕ) : Type 0 where
   pub side : ((nat 0 ≼ B) × (R ≼ nat r)) ⊎ ((B ≼ nat 0) × (opp R ≼ nat r))
 
 pub leans : (B R : Exact) (b r : ℕ) → Leans B R b r → B ⊗ R ≼ nat (b * r)
-leans B R b r l = elim l.side [ inl h ↦ product_le B R b r h.0 l.small.0 h.1 | inr h ↦ let k = product_le (opp B) (opp R) b r (omega (arith, h.0)) l.small.1 h.1 in omega (arith, k) ]
+leans B R b r l =
+    elim l.side [
+      | inl h ↦ product_le B R b r h.0 l.small.0 h.1
+      | inr h ↦ let k = product_le (opp B) (opp R) b r (omega (arith, h.0)) l.small.1 h.1 in omega (arith, k)
+    ]
 
 -- ---- T / u along an edge from a to b, as the nearest point is found: D is (place - a) times (b - a), L the edge's square, e an error
 pub data Foot (D L : Exact) (u T e : ℕ) : Type 0 where
@@ -79,7 +86,9 @@ pub data Foot (D L : Exact) (u T e : ℕ) : Type 0 where
 scale_le : (X : Exact) (u m : ℕ) → X ≼ nat m → nat u ⊗ X ≼ nat (u * m)
 scale_le X u m h = omega (arith, mul-le-mul_left u h)
 
-sides : (z D L B R : Exact) (u T w e : ℕ) → B ≈ nat u ⊗ z ⊖ nat (T * w) → R ≈ nat u ⊗ D ⊖ nat T ⊗ L → nat 0 ≼ z → z ≼ nat w → T ≤ u → Foot D L u T e → Leans B R (u * w) (u * e)
+sides :
+    (z D L B R : Exact) (u T w e : ℕ) → B ≈ nat u ⊗ z ⊖ nat (T * w) → R ≈ nat u ⊗ D ⊖ nat T ⊗ L → nat 0 ≼ z → z ≼ nat w → T ≤ u → Foot D L u T e
+    → Leans B R (u * w) (u * e)
 sides z D L B R u T w e b r o h l f =
     let t = scale_le z u w h in
     let s : 0 ≤ u * w = omega arith in
@@ -88,8 +97,13 @@ sides z D L B R u T w e b r o h l f =
     record { small = (omega arith, omega arith); side = side f }
   where
     side : Foot D L u T e → ((nat 0 ≼ B) × (R ≼ nat (u * e))) ⊎ ((B ≼ nat 0) × (opp R ≼ nat (u * e)))
-    side (first q d) = inl (omega (arith, mul-le-mul_left u o, ap (λ (y : ℕ). y * w) q), omega (arith, scale_le D u e d, ap (λ (y : ℕ). y * L.p) q, ap (λ (y : ℕ). y * L.n) q))
-    side (last q d) = inr (omega (arith, scale_le z u w h, ap (λ (y : ℕ). y * w) q), omega (arith, scale_le (L ⊖ D) u e d, ap (λ (y : ℕ). y * L.p) q, ap (λ (y : ℕ). y * L.n) q))
+    side (first q d) =
+        inl (omega (arith, mul-le-mul_left u o, ap (λ (y : ℕ). y * w) q), omega (arith, scale_le D u e d, ap (λ (y : ℕ). y * L.p) q, ap (λ (y : ℕ). y * L.n) q))
+    side (last q d) =
+        inr (
+          omega (arith, scale_le z u w h, ap (λ (y : ℕ). y * w) q),
+          omega (arith, scale_le (L ⊖ D) u e d, ap (λ (y : ℕ). y * L.p) q, ap (λ (y : ℕ). y * L.n) q),
+        )
     side (inner p q) = elim (lt_or_le B.p B.n) [ inl g ↦ inr (omega arith, omega arith) | inr g ↦ inl (omega arith, omega arith) ]
 
 -- g and v lead from a to the place; the crossing is K at most from it
@@ -139,7 +153,8 @@ module _ (g v dx dy : Exact) (u T : ℕ) where
       let s = leans B R (u * W) (u * e) (sides (v ⊗ dy) (g ⊗ dx ⊕ v ⊗ dy) (dx ⊗ dx ⊕ dy ⊗ dy) B R u T W e b rest a.from a.to l f) in
       let p = under (across_from ⊗ dy ⊖ along_from ⊗ dx) (nat u ⊗ X) (u * (K * w)) turn (scale_le X u (K * w) a.right) in
       let n = over (across_from ⊗ dy ⊖ along_from ⊗ dx) X (u * (K * w)) turn (scale_le (opp X) u (K * w) a.left) in
-      le_of_mul-le-mul_right {k = W} (le_trans (closest across_from along_from dx dy w (u * (K * w)) (u * W) (u * e) a.height p n s) (omega arith)) (mul-pos a.above a.above)
+      le_of_mul-le-mul_right {k = W} (le_trans (closest across_from along_from dx dy w (u * (K * w)) (u * W) (u * e) a.height p n s) (omega arith))
+      (mul-pos a.above a.above)
     where
       level : (B Z Y : Exact) (T W : ℕ) → B ≈ Z ⊖ nat T ⊗ Y → Y ≈ nat W → B ≈ Z ⊖ nat (T * W)
       level B Z Y T W h y = omega (arith, ap (λ (z : ℕ). T * z) y)

@@ -46,7 +46,9 @@ module _ (piece : Piece) (n : ℕ) (ctx : PackCtx) (near : List Rectangle) (anch
   grown true placed p h = rw (length-append placed (p ∷ [])) (omega arith)
   grown false placed p h = omega arith
 
-  pass_count : (honor : Bool) (turns index : ℕ) (placed : List Point) → length placed ≤ n → length (pass piece n ctx near anchor min-x max-x min-y max-y honor turns index placed) ≤ n
+  pass_count :
+      (honor : Bool) (turns index : ℕ) (placed : List Point) → length placed ≤ n
+      → length (pass piece n ctx near anchor min-x max-x min-y max-y honor turns index placed) ≤ n
   unfolding pass
   pass_count honor zero index placed h = h
   pass_count honor (suc turns) index placed h =
@@ -54,7 +56,8 @@ module _ (piece : Piece) (n : ℕ) (ctx : PackCtx) (near : List Rectangle) (anch
       let b = admits piece n ctx near anchor min-x max-x min-y max-y honor placed p in
       elim (eq-or-lt_of_le h) [
         | inl e ↦ rw (eq-eqb (length placed) n e) h
-        | inr l ↦ rw (ne_eqb (length placed) n (λ (e : length placed ≡ n). omega arith)) (pass_count honor turns (index + 1) (cond b (placed ++ p ∷ []) placed) (grown b placed p l))
+        | inr l ↦ rw (ne_eqb (length placed) n (λ (e : length placed ≡ n). omega arith))
+            (pass_count honor turns (index + 1) (cond b (placed ++ p ∷ []) placed) (grown b placed p l))
       ]
 
   pub scattered_count : length (passes piece n ctx near anchor min-x max-x min-y max-y) ≤ n
@@ -70,15 +73,20 @@ module _ (piece : Piece) (n : ℕ) (ctx : PackCtx) (near : List Rectangle) (anch
 
 -- ---- random
 module _ (piece : Piece) (n attempts : ℕ) (ctx : PackCtx) (near : List Rectangle) (min-x max-x min-y max-y : Float) where
-  dart_count : (t : Thrown) (d : Dart) (next : Thrown → Thrown) (m : ℕ) → length t.placed ≤ m → ((u : Thrown) → length u.placed ≤ suc (length t.placed) → length (next u).placed ≤ m) → length (after_dart next t d).placed ≤ m
+  dart_count :
+      (t : Thrown) (d : Dart) (next : Thrown → Thrown) (m : ℕ) → length t.placed ≤ m
+      → ((u : Thrown) → length u.placed ≤ suc (length t.placed) → length (next u).placed ≤ m) → length (after_dart next t d).placed ≤ m
   dart_count t (hit p rng) next m h f = f (record { placed = t.placed ++ p ∷ []; rng = rng }) (rw (length-append t.placed (p ∷ [])) (omega arith))
   dart_count t (miss rng) next m h f = h
 
-  glyphs_count : (honor : Bool) (left m : ℕ) (t : Thrown) → length t.placed + left ≤ m → length (glyphs piece n attempts ctx near min-x max-x min-y max-y honor left t).placed ≤ m
+  glyphs_count :
+      (honor : Bool) (left m : ℕ) (t : Thrown) → length t.placed + left ≤ m
+      → length (glyphs piece n attempts ctx near min-x max-x min-y max-y honor left t).placed ≤ m
   unfolding glyphs
   glyphs_count honor zero m t h = omega arith
   glyphs_count honor (suc left) m t h =
-      dart_count t (throw piece n attempts ctx near min-x max-x min-y max-y honor attempts t.placed t.rng) (glyphs piece n attempts ctx near min-x max-x min-y max-y honor left) m (omega arith)
+      dart_count t (throw piece n attempts ctx near min-x max-x min-y max-y honor attempts t.placed t.rng)
+      (glyphs piece n attempts ctx near min-x max-x min-y max-y honor left) m (omega arith)
       (λ u l. glyphs_count honor left m u (omega arith))
 
   pub thrown_count : (rng : Stream) → length (throws piece n attempts ctx near min-x max-x min-y max-y rng).placed ≤ n

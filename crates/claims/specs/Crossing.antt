@@ -1,4 +1,4 @@
--- Where an edge of a job's coordinates crosses a height between its ends, as computed: a number of size 5,120 at most, so a place inside a ring is within 5,120 across and 1,024 along.
+-- Where an edge of a job's coordinates crosses a height between its ends, as computed: a number of size 5,120 at most; so is a place inside a ring.
 -- Rests on the rounding laws. The ends' heights differ by 1/1024 at least, so the added epsilon hardly changes the divisor.
 use Rattle.std.specs.Prelude.{◌≡◌, refl, ◌⊎◌, Bool, true, false, not, T, Float}
 use Rattle.std.proofs.Common.{sym, ap, ◌∙◌, inl, inr, le_trans, mul-le-mul, mul-le-mul_right, mul-le-mul_left, mul_left_comm, lit<, pow-add}
@@ -40,8 +40,10 @@ spans y yi yj e = go (y <ᶠ yi) (y <ᶠ yj) e
 
 pub height_sized : (y yi yj : Float) → T (fits binary64 y) → Coordinate yi → Coordinate yj → Spans y yi yj → Sized y 1024
 unfolding Spans
-height_sized y yi yj f ci cj (inl h) = ranged f (coordinate_sized cj) (coordinate_sized ci) (not_lt_le yj y (sized_number (coordinate_sized cj)) (lt_number y yi h.0).0 h.1) (lt_le y yi h.0)
-height_sized y yi yj f ci cj (inr h) = ranged f (coordinate_sized ci) (coordinate_sized cj) (not_lt_le yi y (sized_number (coordinate_sized ci)) (lt_number y yj h.0).0 h.1) (lt_le y yj h.0)
+height_sized y yi yj f ci cj (inl h) =
+    ranged f (coordinate_sized cj) (coordinate_sized ci) (not_lt_le yj y (sized_number (coordinate_sized cj)) (lt_number y yi h.0).0 h.1) (lt_le y yi h.0)
+height_sized y yi yj f ci cj (inr h) =
+    ranged f (coordinate_sized ci) (coordinate_sized cj) (not_lt_le yi y (sized_number (coordinate_sized ci)) (lt_number y yj h.0).0 h.1) (lt_le y yj h.0)
 
 -- the exact heights, in order
 abbrev pub Ordered : Exact → Exact → Exact → Type 0
@@ -92,7 +94,8 @@ epsilon_small = rw epsilon_mag (lit≤ tt)
 -- A is 2 h in size, and h at most is added to it: h at least is left
 left_over :
     (s t d : Bool) (A h e m : ℕ) → A ≡ 2 * h → t ≡ false → e ≤ h
-    → ((b : Bool) → signed b h ≼ signed s A ⊕ signed t e → signed b h ≼ signed d m) → ((b : Bool) → signed s A ⊕ signed t e ≼ signed b h → signed d m ≼ signed b h) → h ≤ m
+    → ((b : Bool) → signed b h ≼ signed s A ⊕ signed t e → signed b h ≼ signed d m)
+    → ((b : Bool) → signed s A ⊕ signed t e ≼ signed b h → signed d m ≼ signed b h) → h ≤ m
 left_over false false false A h e m q p l least most = omega (arith, least false (omega arith))
 left_over false false true A h e m q p l least most = omega (arith, least false (omega arith))
 left_over true false false A h e m q p l least most = omega (arith, most true (omega arith))
@@ -101,7 +104,12 @@ left_over s true d A h e m q p l least most = let z : ◌≡◌ {A = ℕ} 0 1 = 
 
 digits_scaled : {g : ℕ} → Digits g → Digits (2048 * g)
 digits_scaled {g} d =
-    record { q = d.q; j = 11 + d.j; small = d.small; is = ap (λ (z : ℕ). 2048 * z) d.is ∙ mul_left_comm 2048 d.q (2 ^ d.j) ∙ ap (λ (z : ℕ). d.q * z) (sym (pow-add 2 11 d.j)) }
+    record {
+      q = d.q;
+      j = 11 + d.j;
+      small = d.small;
+      is = ap (λ (z : ℕ). 2048 * z) d.is ∙ mul_left_comm 2048 d.q (2 ^ d.j) ∙ ap (λ (z : ℕ). d.q * z) (sym (pow-add 2 11 d.j));
+    }
 
 -- ---- the floats
 pub record Crossed (y xi yi xj yj : Float) : Type 0 where
@@ -124,7 +132,8 @@ difference c d =
     let s = sub_exact c.multiple d.multiple (omega (arith, c.few, d.few)) (omega arith) in
     record { value = s.value; count = s.count; few = omega (arith, s.few, c.few, d.few); multiple = s.multiple }
 
-pub crossed : (y xi yi xj yj : Float) → T (fits binary64 y) → Coordinate xi → Coordinate yi → Coordinate xj → Coordinate yj → Spans y yi yj → Crossed y xi yi xj yj
+pub crossed :
+    (y xi yi xj yj : Float) → T (fits binary64 y) → Coordinate xi → Coordinate yi → Coordinate xj → Coordinate yj → Spans y yi yj → Crossed y xi yi xj yj
 crossed y xi yi xj yj f cxi cyi cxj cyj h =
     let A = yj -ᶠ yi in
     let d = A +ᶠ ε in
@@ -149,13 +158,20 @@ crossed y xi yi xj yj f cxi cyi cxj cyj h =
     let divisor = add_of_finite A ε A'.num epsilon_sized.num d'.num.fine in
     let twice : mag A ≡ 2 * (rise.count * half) = rise.multiple.is ∙ halves rise.count in
     let dh : Digits (rise.count * half) = unfold half in digits_at rise.count 1063 (omega (arith, rise.few)) in
-    let l : rise.count * half ≤ mag d = left_over (sgn A) (sgn ε) (sgn d) (mag A) (rise.count * half) (mag ε) (mag d) twice epsilon_plus (le_trans epsilon_small (least_of rise.count half c0))
+    let l : rise.count * half ≤ mag d = left_over (sgn A) (sgn ε) (sgn d) (mag A) (rise.count * half) (mag ε) (mag d) twice epsilon_plus
+    (le_trans epsilon_small (least_of rise.count half c0))
     (λ b k. divisor.least b (rise.count * half) dh k) (λ b k. divisor.most b (rise.count * half) dh k) in
     let divisor_size : mag A ≤ 2 * mag d = omega (arith, twice, l) in
     let product = mul_of_finite X w X'.num w'.num p'.num.fine in
     let p-size : mag p ≤ 2048 * mag A = product.most (2048 * mag A) (digits_scaled dg) (le_trans (mul-le-mul X'.size part_size) (omega arith)) in
     let quotient = div_law p d p'.num d'.num (omega (arith, a0, divisor_size)) (omega (arith, p-size, divisor_size)) in
-    let q' : Sized (p /ᶠ d) 4096 = record { num = quotient.num; size = quotient.most (4096 * U) (digits_whole 4096 (lit< tt)) (le_trans (mul-le-mul_right U (le_trans p-size (mul-le-mul_left 2048 divisor_size))) (omega arith)) } in
+    let q' : Sized (p /ᶠ d) 4096 =
+    record {
+      num = quotient.num;
+      size =
+          quotient.most (4096 * U) (digits_whole 4096 (lit< tt))
+          (le_trans (mul-le-mul_right U (le_trans p-size (mul-le-mul_left 2048 divisor_size))) (omega arith));
+    } in
     record {
       high = Y;
       rise = rise;

@@ -34,7 +34,9 @@ module _ (numbers : Spreading) (piece : Piece) (n attempts : ℕ) (ctx : PackCtx
   abbrev Kept' : (Point → Point → Type 0) → List Point → Type 0
   Kept' R placed = Kept piece (inset ctx) near R ctx.mode.strict_obstacles placed
 
-  within_kept : (b : Option Extents) (rng : Stream) → ctx.mode.spread ≡ true → Kept' (Apart (spacing ctx)) (throw_within b numbers piece n attempts ctx obstacles rng).placed
+  within_kept :
+      (b : Option Extents) (rng : Stream) → ctx.mode.spread ≡ true
+      → Kept' (Apart (spacing ctx)) (throw_within b numbers piece n attempts ctx obstacles rng).placed
   unfolding throw_within
   within_kept None rng e = none_kept piece (inset ctx) near (Apart (spacing ctx)) ctx.mode.strict_obstacles
   within_kept (Some bounds) rng e = go ctx.mode.spread e
@@ -72,7 +74,9 @@ module _ (numbers : Spreading) (piece : Piece) (n attempts : ℕ) (ctx : PackCtx
       few : length thrown.placed ≤ n
       few = thrown_count piece n attempts ctx near bounds.min_x bounds.max_x bounds.min_y bounds.max_y rng
 
-      go : (b : Bool) → length (cond b (record { placed = relax_scatter numbers thrown.placed piece near (spacing ctx) (inset ctx); rng = thrown.rng }) thrown).placed ≤ n
+      go :
+          (b : Bool)
+          → length (cond b (record { placed = relax_scatter numbers thrown.placed piece near (spacing ctx) (inset ctx); rng = thrown.rng }) thrown).placed ≤ n
       go true = rw (length_relaxed numbers thrown.placed piece near (spacing ctx) (inset ctx)) few
       go false = few
 

@@ -65,7 +65,9 @@ next_prev n zero h = rw (le-ltb (n - 1 + 1) n (omega arith)) refl
 next_prev n (suc k) h = rw (lt-ltb (k + 1) n (omega arith)) (omega arith)
 
 -- ---- an edge beside the place
-module _ (x y xi yi xj yj : Float) (cxi : Coordinate xi) (cyi : Coordinate yi) (cxj : Coordinate xj) (cyj : Coordinate yj) (C : Crossed y xi yi xj yj) (o : Ordered (val y) (val yi) (val yj)) (P : Placed x y) where
+module _
+    (x y xi yi xj yj : Float) (cxi : Coordinate xi) (cyi : Coordinate yi) (cxj : Coordinate xj) (cyj : Coordinate yj) (C : Crossed y xi yi xj yj)
+    (o : Ordered (val y) (val yi) (val yj)) (P : Placed x y) where
   abbrev c : Float
   c = crossing y xi yi xj yj
 
@@ -83,20 +85,26 @@ module _ (x y xi yi xj yj : Float) (cxi : Coordinate xi) (cyi : Coordinate yi) (
       let turn : val (yi -ᶠ yj) ≈ signed (not (sgn A)) (a + b) = rw S.both (turned (sgn A) (mag A) (val (yi -ᶠ yj)) (val yi) (val yj) C.rise.value d.value) in
       let w0 : 0 < a + b = rw S.both (positive C.rise.count (mag A) C.above C.rise.multiple.is) in
       let w1 : 0 < mag (yi -ᶠ yj) = rw (same_size (sgn (yi -ᶠ yj)) (not (sgn A)) (mag (yi -ᶠ yj)) (a + b) turn) w0 in
-      let near = oriented (sgn A) (mag A) a b U (val y ⊖ val yi) (val q) R ((val y ⊖ val yi) ⊗ R) S.both (equal_products (val y ⊖ val yi) (signed (sgn A) a) R R S.part (omega arith)) O.low O.high in
+      let near =
+      oriented (sgn A) (mag A) a b U (val y ⊖ val yi) (val q) R ((val y ⊖ val yi) ⊗ R) S.both
+      (equal_products (val y ⊖ val yi) (signed (sgn A) a) R R S.part (omega arith)) O.low O.high in
       let i = signed_le (sgn xi) (mag xi) in
       let j = signed_le (sgn xj) (mag xj) in
       let I = (coordinate_sized cxi).size in
       let J = (coordinate_sized cxj).size in
-      let N = within_of (val x) (val xi) (val xj) (val q) (val c) R a b C.run.value near.0 near.1 O.below O.above (omega arith) (omega arith) (omega arith) (omega arith) side in
+      let N =
+      within_of (val x) (val xi) (val xj) (val q) (val c) R a b C.run.value near.0 near.1 O.below O.above (omega arith) (omega arith) (omega arith)
+      (omega arith) side in
       edge_reached x y xj yj xi yi P.across P.along cxj cyj cxi cyi w1 (a + b)
-      (across (sgn A) (val x ⊖ val xi) R (val x ⊖ val xj) (val y ⊖ val yj) (val (xi -ᶠ xj)) (val (yi -ᶠ yj)) a b (1025 * U) w0 (omega (arith, C.run.value)) S.rest (omega (arith, run.value, C.run.value)) turn N.0 N.1)
+      (across (sgn A) (val x ⊖ val xi) R (val x ⊖ val xj) (val y ⊖ val yj) (val (xi -ᶠ xj)) (val (yi -ᶠ yj)) a b (1025 * U) w0
+      (omega (arith, C.run.value)) S.rest (omega (arith, run.value, C.run.value)) turn N.0 N.1)
     where
       positive : (n m : ℕ) → 0 < n → m ≡ n * 2 ^ 1064 → 0 < m
       positive n m h e = rw e (mul-pos h (pow_pos 1064))
 
       within_of :
-          (x i j q c R : Exact) (a b : ℕ) → R ≈ j ⊖ i → nat (a + b) ⊗ q ≼ nat a ⊗ R ⊕ nat (U * (a + b)) → nat a ⊗ R ≼ nat (a + b) ⊗ q ⊕ nat (U * (a + b)) → c ≼ q ⊕ i ⊕ nat U → q ⊕ i ≼ c ⊕ nat U
+          (x i j q c R : Exact) (a b : ℕ) → R ≈ j ⊖ i → nat (a + b) ⊗ q ≼ nat a ⊗ R ⊕ nat (U * (a + b)) → nat a ⊗ R ≼ nat (a + b) ⊗ q ⊕ nat (U * (a + b))
+          → c ≼ q ⊕ i ⊕ nat U → q ⊕ i ≼ c ⊕ nat U
           → opp i ≼ nat (1024 * U) → i ≼ nat (1024 * U) → opp j ≼ nat (1024 * U) → j ≼ nat (1024 * U) → ((x ≼ c) × (nat 0 ≼ x)) ⊎ ((c ≼ x) × (x ≼ nat 0))
           → (from_crossing (x ⊖ i) R a b ≼ nat (1025 * U * (a + b))) × (opp (from_crossing (x ⊖ i) R a b) ≼ nat (1025 * U * (a + b)))
       within_of x i j q c R a b r l h be ab il ih jl jh (inl s) = left_of x i j q c R a b U r l h be ab il ih jl jh s.0 s.1
@@ -132,8 +140,16 @@ module _ (x y : Float) (v : Ring) (r : RingKnown v) (fx : T (fits binary64 x)) (
       let R = edge_crossed x y v r fx fy b.right in
       let L = edge_crossed x y v r fx fy b.left in
       elim (lt_or_le (val x).p (val x).n) [
-        | inl l ↦ record { index = prev (vertices v) b.left.k; within = prev_within (vertices v) b.left.k b.left.within; near = edge_near b.left P (inr (¬lt→≼ x _ P.across.num L.sized.num (no b.left.side), omega arith)) }
-        | inr l ↦ record { index = prev (vertices v) b.right.k; within = prev_within (vertices v) b.right.k b.right.within; near = edge_near b.right P (inl (weaken (val x) _ (lt→≺ x _ P.across.num R.sized.num (yes b.right.side)), omega arith)) }
+        | inl l ↦ record {
+          index = prev (vertices v) b.left.k;
+          within = prev_within (vertices v) b.left.k b.left.within;
+          near = edge_near b.left P (inr (¬lt→≼ x _ P.across.num L.sized.num (no b.left.side), omega arith));
+        }
+        | inr l ↦ record {
+          index = prev (vertices v) b.right.k;
+          within = prev_within (vertices v) b.right.k b.right.within;
+          near = edge_near b.right P (inl (weaken (val x) _ (lt→≺ x _ P.across.num R.sized.num (yes b.right.side)), omega arith));
+        }
       ]
     where
       weaken : (a b : Exact) → a ≺ b → a ≼ b

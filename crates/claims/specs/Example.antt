@@ -17,7 +17,8 @@ use Rattle.glyphs.specs.declared.rect.Rectangle.{Rectangle}
 use Rattle.glyphs.specs.Apportion.{total, no_weight, share, whole_share, remainder, base, rems, assigned, by_remainder, order, hand_out, apportion}
 use Rattle.glyphs.specs.Halton.{radical_inverse, digits}
 use Rattle.glyphs.specs.Bounds.{extent, extents_of, box_of, ring_bounds}
-use Rattle.glyphs.specs.Rect.{rect_at, rects_from, rectangles, dist_to_rect, clear_of_obstacles, is_finite, sane, filter, sanitize_obstacles, near, obstacles_near}
+use Rattle.glyphs.specs.Rect.{rect_at, rects_from, rectangles, dist_to_rect, clear_of_obstacles, is_finite, sane, filter, sanitize_obstacles, near}
+use Rattle.glyphs.specs.Rect.{obstacles_near}
 use Rattle.regions.specs.Ring.{Piece, next, prev, outer, holes}
 use Rattle.regions.specs.Inside.{point_in_polygon, inside_after, intersect, flip}
 use Rattle.regions.specs.Clearance.{along, edge_square, closer, best_after, best_of_ring, min_dist_to_rings, in_any, within, signed_clearance}
@@ -37,14 +38,16 @@ use Rattle.discs.specs.PlaceGlyphs.{is_left_in, work_of, pack, pack_at, size_for
 use Rattle.format.specs.Rows.{◌unless◌, ◌or_else◌, faults, past, each}
 use Rattle.format.specs.Numbers.{uint, item, in_range, coord_in, coord_at, coord_of, share as part}
 use Rattle.format.specs.Pieces.{ring, ring_fault, ring_end, piece, piece_fault, piece_end}
-use Rattle.job.specs.Head.{lent_fault, number_after, choices_fault, measures_fault, head_fault, arrangement_of, policy_of, radius_of, boundary_of, options_of, obstacles, obstacles_fault, obstacles_end}
+use Rattle.job.specs.Head.{lent_fault, number_after, choices_fault, measures_fault, head_fault, arrangement_of, policy_of, radius_of, boundary_of, options_of}
+use Rattle.job.specs.Head.{obstacles, obstacles_fault, obstacles_end}
 use Rattle.job.specs.Zones.{zone, letter, letter_fault, above, key_at, key_fault, counts_fault, count_at, zone_end, opening_fault, zone_fault, zone_next}
 use Rattle.job.specs.Job.{Job, job_of, zones, zones_end, zones_fault, items_fault}
 use Rattle.relax.specs.Scatter.{source}
 use Rattle.job.specs.Plan.{room, placements_of}
 use Rattle.claims.specs.Claim.{pillars_of, placed_of}
 
--- LowDiscrepancy, Strict, radius 1, gap 0 followed, precision 1, no attempts, seed 0; a pillar of 2 by 2 at (6, 4); zone `A`, count 2, the square (0, 0) to (12, 12)
+-- LowDiscrepancy, Strict, radius 1, gap 0 followed, precision 1, no attempts, seed 0; a pillar of 2 by 2 at (6, 4); zone `A`, count 2,
+-- the square (0, 0) to (12, 12)
 pub job : List ℕ
 job =
     0 ∷ 0 ∷ 0 ∷ 93
@@ -71,7 +74,9 @@ unfolding job lent_fault ◌unless◌ ◌or_else◌ uint
 lent = refl
 
 pub read : items_fault job ≡ 0
-unfolding job items_fault head_fault choices_fault measures_fault number_after obstacles_fault obstacles_end zones_fault zones_end zone_fault zone_next opening_fault key_fault counts_fault letter_fault letter above key_at count_at zone_end piece_fault piece_end ring_fault ring_end item in_range coord_in uint faults past ◌unless◌ ◌or_else◌
+unfolding job items_fault head_fault choices_fault measures_fault number_after obstacles_fault obstacles_end zones_fault zones_end zone_fault zone_next
+    opening_fault key_fault counts_fault letter_fault letter above key_at count_at zone_end piece_fault piece_end ring_fault ring_end item in_range
+    coord_in uint faults past ◌unless◌ ◌or_else◌
 read = refl
 
 -- ---- what it says
@@ -85,7 +90,17 @@ abbrev pub 12ᶠ : Float
 12ᶠ = literal 0x4028_0000_0000_0000
 
 abbrev pub options : GlyphOptions
-options = record { arrangement = LowDiscrepancy; radius = Stated 1ᶠ; gap = 0ᶠ; boundary_gap = None; seed = 0; precision = 1ᶠ; max_attempts = 0; obstacle_policy = Strict }
+options =
+    record {
+      arrangement = LowDiscrepancy;
+      radius = Stated 1ᶠ;
+      gap = 0ᶠ;
+      boundary_gap = None;
+      seed = 0;
+      precision = 1ᶠ;
+      max_attempts = 0;
+      obstacle_policy = Strict;
+    }
 
 abbrev pub square : Zone
 square = record { key = 65 ∷ []; count = 2; pieces = ((0ᶠ ∷ 0ᶠ ∷ 12ᶠ ∷ 0ᶠ ∷ 12ᶠ ∷ 12ᶠ ∷ 0ᶠ ∷ 12ᶠ ∷ []) ∷ []) ∷ [] }
@@ -94,7 +109,9 @@ abbrev pub said : Job
 said = record { options = options; obstacles = 6ᶠ ∷ 4ᶠ ∷ 2ᶠ ∷ 2ᶠ ∷ []; zones = square ∷ [] }
 
 pub says : job_of job ≡ said
-unfolding job job_of options_of arrangement_of policy_of radius_of boundary_of obstacles obstacles_end zones zone key_at count_at zone_end piece piece_end ring ring_end coord_at coord_of part uint each past Ieee.of_bits Ieee.of_fields Ieee.odd Ieee.climb Ieee.span Ieee.size Ieee.units Ieee.round Ieee.neg Ieee.div Ieee.of_int
+unfolding job job_of options_of arrangement_of policy_of radius_of boundary_of obstacles obstacles_end zones zone key_at count_at zone_end piece piece_end ring
+    ring_end coord_at coord_of part uint each past Ieee.of_bits Ieee.of_fields Ieee.odd Ieee.climb Ieee.span Ieee.size Ieee.units Ieee.round Ieee.neg
+    Ieee.div Ieee.of_int
 says = refl
 
 -- ---- what is placed
@@ -115,7 +132,10 @@ abbrev pub other : Point
 other = point (literal 0x4022_0000_0000_0000) (literal 0x3ff5_5555_5555_5555)
 
 pub shared : quotas square ≡ 2 ∷ []
-unfolding quotas piece_area shoelace_area area_after area_step area_sum next outer holes apportion total no_weight share whole_share remainder base rems assigned by_remainder order hand_out up_to insert sort_by max abs floor total_key total_cmp Ieee.is_nan Ieee.le Ieee.eq Ieee.to_unsigned Ieee.to_bits Ieee.of_bits Ieee.of_fields Ieee.odd Ieee.climb Ieee.span Ieee.size Ieee.units Ieee.round Ieee.neg Ieee.sum Ieee.add Ieee.sub Ieee.mul Ieee.div Ieee.lt Ieee.of_int
+unfolding quotas piece_area shoelace_area area_after area_step area_sum next outer holes apportion total no_weight share whole_share remainder base rems
+    assigned by_remainder order hand_out up_to insert sort_by max abs floor total_key total_cmp Ieee.is_nan Ieee.le Ieee.eq Ieee.to_unsigned Ieee.to_bits
+    Ieee.of_bits Ieee.of_fields Ieee.odd Ieee.climb Ieee.span Ieee.size Ieee.units Ieee.round Ieee.neg Ieee.sum Ieee.add Ieee.sub Ieee.mul Ieee.div
+    Ieee.lt Ieee.of_int
 shared = refl
 
 bounded : ring_bounds (outer corner) ≡ Some (record { min_x = 0ᶠ; max_x = 12ᶠ; min_y = 0ᶠ; max_y = 12ᶠ })
@@ -123,11 +143,15 @@ unfolding ring_bounds box_of extents_of extent outer min max Ieee.is_nan Ieee.le
 bounded = refl
 
 pub kept_near : local_to corner (pillar ∷ []) (inset ctx) ≡ pillar ∷ []
-unfolding inset obstacles_near filter near ring_bounds box_of extents_of extent outer min max Ieee.is_nan Ieee.le Ieee.eq Ieee.lt Ieee.neg Ieee.of_bits Ieee.of_fields Ieee.odd Ieee.climb Ieee.span Ieee.size Ieee.units Ieee.round Ieee.sum Ieee.add Ieee.sub Ieee.mul
+unfolding inset obstacles_near filter near ring_bounds box_of extents_of extent outer min max Ieee.is_nan Ieee.le Ieee.eq Ieee.lt Ieee.neg Ieee.of_bits
+    Ieee.of_fields Ieee.odd Ieee.climb Ieee.span Ieee.size Ieee.units Ieee.round Ieee.sum Ieee.add Ieee.sub Ieee.mul
 kept_near = refl
 
 passed : (left : ℕ) → pass corner 2 ctx (pillar ∷ []) None 0ᶠ 12ᶠ 0ᶠ 12ᶠ true (suc (suc (suc (suc left)))) 0 [] ≡ one ∷ other ∷ []
-unfolding pass candidate admits apart cell_number radical_inverse digits all signed_clearance min_dist_to_rings best_of_ring best_after closer edge_square along clamp within in_any point_in_polygon inside_after intersect flip clear_of_obstacles dist_to_rect hypot max abs floor root_of nearest_root floor_root inset spacing next prev outer holes Ieee.is_nan Ieee.le Ieee.eq Ieee.lt Ieee.to_signed Ieee.to_unsigned Ieee.neg Ieee.of_bits Ieee.of_fields Ieee.odd Ieee.climb Ieee.span Ieee.size Ieee.units Ieee.round Ieee.sum Ieee.add Ieee.sub Ieee.mul Ieee.div Ieee.of_int
+unfolding pass candidate admits apart cell_number radical_inverse digits all signed_clearance min_dist_to_rings best_of_ring best_after closer edge_square along
+    clamp within in_any point_in_polygon inside_after intersect flip clear_of_obstacles dist_to_rect hypot max abs floor root_of nearest_root floor_root
+    inset spacing next prev outer holes Ieee.is_nan Ieee.le Ieee.eq Ieee.lt Ieee.to_signed Ieee.to_unsigned Ieee.neg Ieee.of_bits Ieee.of_fields Ieee.odd
+    Ieee.climb Ieee.span Ieee.size Ieee.units Ieee.round Ieee.sum Ieee.add Ieee.sub Ieee.mul Ieee.div Ieee.of_int
 passed left = refl
 
 scattered : pack_scatter None corner 2 ctx (pillar ∷ []) ≡ one ∷ other ∷ []

@@ -1,4 +1,4 @@
--- QUOTAS: for a count up to 2,000 and up to 16 weights that are finite and not negative, of a computed sum above 0 and finite, the quotas add up to the count, and each is less than 1 + 2 ^ -20 away from its exact share, count * weight / sum.
+-- QUOTAS, of up to 2,000 marks by up to 16 finite weights of at least 0 and a finite computed sum above 0: they add up, each within 1 + 2 ^ -20 of its share.
 -- Rests on `Shares` (a computed share is 2 ^ -25 from the exact one at most), so no sum is taken to be exact; and on `HandOut`.
 use Rattle.std.specs.Prelude.{ℕ, zero, suc, ◌+◌, ◌*◌, ◌≤◌, ◌<◌, T, get_or, Float}
 use mathlib.Core.List.{List, [], ◌∷◌}

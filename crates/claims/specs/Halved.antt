@@ -52,7 +52,15 @@ ceiling r S o l =
       | inl h ↦ absurd (fine_clash (mag r) (le_trans (le_of_eq d.is) (mul-le-mul (le_of_lt d.small) (pow_mono {j = 10} (le_of_lt h)))) l)
       | inr h ↦
           let e : mag r ≡ d.q * 2 ^ (d.j - 10 + 10) = d.is ∙ ap (λ (z : ℕ). d.q * 2 ^ z) (omega (arith, h)) in
-          record { sized = S; nonneg = o; q = d.q; b = d.j - 10; small = d.small; is = e; least = le_trans l (le_of_eq (ap (λ (z : ℕ). 1024 * z) e ∙ least_part d.q (d.j - 10))) }
+          record {
+            sized = S;
+            nonneg = o;
+            q = d.q;
+            b = d.j - 10;
+            small = d.small;
+            is = e;
+            least = le_trans l (le_of_eq (ap (λ (z : ℕ). 1024 * z) e ∙ least_part d.q (d.j - 10)));
+          }
     ]
 
 -- ---- what is found

@@ -74,15 +74,23 @@ order_in_range : (rems : List Float) (t : ℕ) → weigh (beyond (length rems)) 
 unfolding order
 order_in_range rems t =
     let k = length rems in
-    omega (arith, weigh_take (beyond k) t (sort_by (by_remainder rems) (up_to k)), weigh_sort (by_remainder rems) (beyond k) (up_to k), all_in_range k k (omega arith))
+    omega (
+      arith,
+      weigh_take (beyond k) t (sort_by (by_remainder rems) (up_to k)),
+      weigh_sort (by_remainder rems) (beyond k) (up_to k),
+      all_in_range k k (omega arith),
+    )
 
 length_order : (rems : List Float) → length (order rems) ≡ length rems
 unfolding order
 length_order rems =
-    sym (length_weigh (sort_by (by_remainder rems) (up_to (length rems)))) ∙ weigh_sort (by_remainder rems) (λ (i : ℕ). 1) (up_to (length rems)) ∙ length_weigh (up_to (length rems)) ∙ length_up_to (length rems)
+    sym (length_weigh (sort_by (by_remainder rems) (up_to (length rems)))) ∙ weigh_sort (by_remainder rems) (λ (i : ℕ). 1) (up_to (length rems))
+    ∙ length_weigh (up_to (length rems)) ∙ length_up_to (length rems)
 
 -- WHAT IS HANDED OUT: the floors, and one each for as many as are left
-pub handed_sum : (floors : List ℕ) (rems : List Float) (left : ℕ) → length floors ≡ length rems → assigned (hand_out floors (take left (order rems))) ≡ assigned floors + min left (length rems)
+pub handed_sum :
+    (floors : List ℕ) (rems : List Float) (left : ℕ) → length floors ≡ length rems
+    → assigned (hand_out floors (take left (order rems))) ≡ assigned floors + min left (length rems)
 handed_sum floors rems left e =
     assigned_sum (hand_out floors (take left (order rems)))
     ∙ sum_hand_out floors (take left (order rems)) (rw e (order_in_range rems left))

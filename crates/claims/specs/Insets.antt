@@ -28,7 +28,9 @@ share_gap n h =
     record {
       sized = record {
         num = m.num;
-        size = le_trans (le_of_eq m.is) (le_trans (mul-le-mul_right (2 ^ 1064) h) (le_of_eq (mul_assoc 16 1024 (2 ^ 1064) ∙ ap (λ (z : ℕ). 16 * z) (sym (pow-add 2 10 1064) ∙ sym U-is))));
+        size =
+            le_trans (le_of_eq m.is)
+            (le_trans (mul-le-mul_right (2 ^ 1064) h) (le_of_eq (mul_assoc 16 1024 (2 ^ 1064) ∙ ap (λ (z : ℕ). 16 * z) (sym (pow-add 2 10 1064) ∙ sym U-is))));
       };
       nonneg = share_nonneg n (omega arith);
     }

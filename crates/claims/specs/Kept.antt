@@ -1,4 +1,4 @@
--- What holds of the marks that a packer places in a piece: 64 bits hold them, clearance, obstacles where they are honoured, and any two of them; and how computed distances become exact ones.
+-- What holds of the marks that a packer places in a piece: 64 bits hold them, clearance, obstacles where they are honoured, any two; and exact distances.
 -- Rests on the rounding crate's law of computed squares.
 use Rattle.std.specs.Prelude.{Bool, true, false, List, [], ◌∷◌, T, Float}
 use Rattle.std.specs.Float.{binary64}
@@ -47,7 +47,8 @@ module _ {piece : Piece} {clear : Float} {near : List Rectangle} {R : Point → 
   honor_kept honor k = record { insets = k.insets; unblocked = λ t. k.unblocked tt; apart = k.apart }
 
 -- ---- any two, by what holds of each
-pub pairwise_by : {A : Type 0} (P : A → Type 0) (R S : A → A → Type 0) → ((x y : A) → P x → P y → R x y → S x y) → (xs : List A) → Every P xs → Pairwise R xs → Pairwise S xs
+pub pairwise_by :
+    {A : Type 0} (P : A → Type 0) (R S : A → A → Type 0) → ((x y : A) → P x → P y → R x y → S x y) → (xs : List A) → Every P xs → Pairwise R xs → Pairwise S xs
 pairwise_by {A} P R S f [] e p = tt
 pairwise_by {A} P R S f (x ∷ xs) e p = (row xs e.1 p.0, pairwise_by P R S f xs e.1 p.1)
   where
@@ -57,7 +58,8 @@ pairwise_by {A} P R S f (x ∷ xs) e p = (row xs e.1 p.0, pairwise_by P R S f xs
 
 pub kept_by :
     (piece : Piece) (clear : Float) (near : List Rectangle) (R S : Point → Point → Type 0) (honor : Bool) (placed : List Point)
-    → ((p q : Point) → Stands piece clear p → Stands piece clear q → R p q → S p q) → Kept piece clear near R honor placed → Kept piece clear near S honor placed
+    → ((p q : Point) → Stands piece clear p → Stands piece clear q → R p q → S p q) → Kept piece clear near R honor placed
+    → Kept piece clear near S honor placed
 kept_by piece clear near R S honor placed f k =
     record { insets = k.insets; unblocked = k.unblocked; apart = pairwise_by (Stands piece clear) R S f placed k.insets k.apart }
 

@@ -41,7 +41,9 @@ step_is : step * 1024 ≡ U
 unfolding step U
 step_is = refl
 
-room : (h u s w : ℕ) → s * 1024 ≡ u → s ≤ w → h ≤ u → 2051 * u * (4096 * u) + (4194304 * u * u + 2049 * u * h + (2048 * u * (2048 * u) + u * h + 2048 * u * (2048 * u))) ≤ u * w * E
+room :
+    (h u s w : ℕ) → s * 1024 ≡ u → s ≤ w → h ≤ u
+    → 2051 * u * (4096 * u) + (4194304 * u * u + 2049 * u * h + (2048 * u * (2048 * u) + u * h + 2048 * u * (2048 * u))) ≤ u * w * E
 room h u s w e l k =
     let a : u * u ≤ 1024 * (u * w) = omega (arith, ap (λ (z : ℕ). z * u) e, mul-le-mul_right (u * 1024) l) in
     let b : u * h ≤ u * u = mul-le-mul_left u k in
@@ -63,18 +65,33 @@ off y xi yi xj yj cxi cyi cxj cyj C =
     let p' : Sized p 4194304 = mul_sized C.run_sized w' (lit< tt) in
     let d' : Sized d 2049 = add_sized A' epsilon_sized (lit< tt) in
     -- the divisor against the rise
-    let i = divisor_close (val d) (val A) (sgn ε) (mag ε) (epsilon_twice) (close_wider E (abs (val A ⊕ val ε)) (2049 * U) (val d) (val A ⊕ val ε) (omega (arith, signed_le (sgn A) (mag A), signed_le (sgn ε) (mag ε), A'.size, epsilon_sized.size)) C.divisor.close) in
-    let j = close_sym E (2051 * U * (4096 * U)) (val d ⊗ val q) (val A ⊗ val q) (scaled_sign (2051 * U) E (val d) (val A) (sgn q) (mag q) (4096 * U) C.quotient_size.size i) in
+    let i =
+    divisor_close (val d) (val A) (sgn ε) (mag ε) (epsilon_twice)
+    (close_wider E (abs (val A ⊕ val ε)) (2049 * U) (val d) (val A ⊕ val ε)
+    (omega (arith, signed_le (sgn A) (mag A), signed_le (sgn ε) (mag ε), A'.size, epsilon_sized.size)) C.divisor.close) in
+    let j =
+    close_sym E (2051 * U * (4096 * U)) (val d ⊗ val q) (val A ⊗ val q)
+    (scaled_sign (2051 * U) E (val d) (val A) (sgn q) (mag q) (4096 * U) C.quotient_size.size i) in
     -- the quotient, the product and the part
     let k = close_same (4194304 * U * U + 2049 * U * H) (val q ⊗ val d) (val p ⊗ nat U) (val d ⊗ val q) (val p ⊗ nat U) (both (val q) (val d)) (omega arith)
-    (close_wider E (mag p * U + mag d * H) (4194304 * U * U + 2049 * U * H) (val q ⊗ val d) (val p ⊗ nat U) (sizes (mag p) (mag d) U H p'.size d'.size) (quotient_close C.quotient)) in
+    (close_wider E (mag p * U + mag d * H) (4194304 * U * U + 2049 * U * H) (val q ⊗ val d) (val p ⊗ nat U) (sizes (mag p) (mag d) U H p'.size d'.size)
+    (quotient_close C.quotient)) in
     let m = close_same (2048 * U * (2048 * U) + U * H) (val p ⊗ nat U) (val X ⊗ val w) (val p ⊗ nat U) (val w ⊗ val X) (omega arith) (both (val X) (val w))
-    (close_wider E (mag X * mag w + U * H) (2048 * U * (2048 * U) + U * H) (val p ⊗ nat U) (val X ⊗ val w) (more (mag X * mag w) (2048 * U * (2048 * U)) (U * H) (mul-le-mul C.run_sized.size w'.size)) (product_close C.product)) in
+    (close_wider E (mag X * mag w + U * H) (2048 * U * (2048 * U) + U * H) (val p ⊗ nat U) (val X ⊗ val w)
+    (more (mag X * mag w) (2048 * U * (2048 * U)) (U * H) (mul-le-mul C.run_sized.size w'.size)) (product_close C.product)) in
     let n = scaled_sign (2048 * U) E (val w) g (sgn X) (mag X) (2048 * U) C.run_sized.size
-    (close_wider E (abs g) (2048 * U) (val w) g (omega (arith, signed_le (sgn y) (mag y), signed_le (sgn yi) (mag yi), C.high.size, (coordinate_sized cyi).size)) C.part.close) in
-    let t = close_chain E _ _ (val A ⊗ val q) (val d ⊗ val q) (g ⊗ val X) j (close_chain E _ _ (val d ⊗ val q) (val p ⊗ nat U) (g ⊗ val X) k (close_chain E _ _ (val p ⊗ nat U) (val w ⊗ val X) (g ⊗ val X) m n)) in
-    let e = near_enough E _ (U * mag A) (val A ⊗ val q) (g ⊗ val X) (lit< tt) (room H U step (mag A) step_is (least C.rise.count (mag A) C.above C.rise.multiple.is) (unfold U in lit≤ tt)) t in
-    let r = close_wider E (abs (val q ⊕ val xi)) (5120 * U) (val c) (val q ⊕ val xi) (omega (arith, signed_le (sgn q) (mag q), signed_le (sgn xi) (mag xi), C.quotient_size.size, (coordinate_sized cxi).size)) (add_of_finite q xi C.quotient_size.num cxi.multiple.num C.sized.num.fine).close in
+    (close_wider E (abs g) (2048 * U) (val w) g
+    (omega (arith, signed_le (sgn y) (mag y), signed_le (sgn yi) (mag yi), C.high.size, (coordinate_sized cyi).size)) C.part.close) in
+    let t =
+    close_chain E _ _ (val A ⊗ val q) (val d ⊗ val q) (g ⊗ val X) j
+    (close_chain E _ _ (val d ⊗ val q) (val p ⊗ nat U) (g ⊗ val X) k (close_chain E _ _ (val p ⊗ nat U) (val w ⊗ val X) (g ⊗ val X) m n)) in
+    let e =
+    near_enough E _ (U * mag A) (val A ⊗ val q) (g ⊗ val X) (lit< tt)
+    (room H U step (mag A) step_is (least C.rise.count (mag A) C.above C.rise.multiple.is) (unfold U in lit≤ tt)) t in
+    let r =
+    close_wider E (abs (val q ⊕ val xi)) (5120 * U) (val c) (val q ⊕ val xi)
+    (omega (arith, signed_le (sgn q) (mag q), signed_le (sgn xi) (mag xi), C.quotient_size.size, (coordinate_sized cxi).size))
+    (add_of_finite q xi C.quotient_size.num cxi.multiple.num C.sized.num.fine).close in
     let f = near_enough E (5120 * U) U (val c) (val q ⊕ val xi) (lit< tt) (omega arith) r in
     record { low = e.0; high = e.1; below = f.0; above = f.1 }
   where

@@ -34,7 +34,17 @@ box_sized ring k = go (ring_bounds ring) refl
 
 -- ---- the boundary gap
 boundary_of_lem : (options : GlyphOptions) (b : Option Float) → BoundaryKnown b → Shares 0 16384 options.gap
-    → Gap (boundary_gap_of (record { arrangement = options.arrangement; radius = options.radius; gap = options.gap; boundary_gap = b; seed = options.seed; precision = options.precision; max_attempts = options.max_attempts; obstacle_policy = options.obstacle_policy }))
+    → Gap (boundary_gap_of
+    (record {
+      arrangement = options.arrangement;
+      radius = options.radius;
+      gap = options.gap;
+      boundary_gap = b;
+      seed = options.seed;
+      precision = options.precision;
+      max_attempts = options.max_attempts;
+      obstacle_policy = options.obstacle_policy;
+    }))
 boundary_of_lem options None k s = not_below (max options.gap 0ᶠ) (not_below options.gap (gap_of_lem options.gap s))
 boundary_of_lem options (Some x) k s = not_below x (gap_of_lem x k)
 
@@ -58,6 +68,8 @@ module _ (k : ℕ) (few : k ≤ 1084) (options : GlyphOptions) (o : OptionsKnown
         short = (spacing_sized k few radius (gap_of options) R.sized R.nonneg G.sized G.nonneg).size;
         number = sized_number (inset_sized k few radius (boundary_gap_of options) R.sized R.nonneg B.sized B.nonneg);
         sited = λ p s.
-            let q = inset_placed p.x p.y (radius *ᶠ (1ᶠ +ᶠ boundary_gap_of options)) piece known s.fits.across s.fits.along (inset_above k few radius (boundary_gap_of options) R B) s.deep in
+            let q =
+            inset_placed p.x p.y (radius *ᶠ (1ᶠ +ᶠ boundary_gap_of options)) piece known s.fits.across s.fits.along
+            (inset_above k few radius (boundary_gap_of options) R B) s.deep in
             record { across = wider (lit≤ tt) q.across; along = wider (lit≤ tt) q.along };
       }

@@ -97,6 +97,10 @@ half_exact hi k g G h o d e =
     let t = total_law 0ᶠ hi k L G h oz o l in
     let p = half_law 0ᶠ hi k L G h oz o l in
     let v = plain (sgn hi) (mag hi) o in
-    let low : mag hi ≤ mag (0ᶠ +ᶠ hi) = at_least (sgn (0ᶠ +ᶠ hi)) (mag (0ᶠ +ᶠ hi)) (mag hi) (t.least false (mag hi) (digits hi G.num) (rw zero_val (omega arith))) in
-    let high : mag (0ᶠ +ᶠ hi) ≤ mag hi = at_most (sgn (0ᶠ +ᶠ hi)) (mag (0ᶠ +ᶠ hi)) (mag hi) (total_nonneg 0ᶠ hi k L G h oz o l) (t.most false (mag hi) (digits hi G.num) (rw zero_val (omega arith))) in
-    le_antisymm (p.most g d (halved g (mag ½ᶠ) (mag (0ᶠ +ᶠ hi)) U half_twice (omega arith))) (p.least g d (doubled g (mag ½ᶠ) (mag (0ᶠ +ᶠ hi)) U half_twice (omega arith)))
+    let low : mag hi ≤ mag (0ᶠ +ᶠ hi) =
+    at_least (sgn (0ᶠ +ᶠ hi)) (mag (0ᶠ +ᶠ hi)) (mag hi) (t.least false (mag hi) (digits hi G.num) (rw zero_val (omega arith))) in
+    let high : mag (0ᶠ +ᶠ hi) ≤ mag hi =
+    at_most (sgn (0ᶠ +ᶠ hi)) (mag (0ᶠ +ᶠ hi)) (mag hi) (total_nonneg 0ᶠ hi k L G h oz o l)
+    (t.most false (mag hi) (digits hi G.num) (rw zero_val (omega arith))) in
+    le_antisymm (p.most g d (halved g (mag ½ᶠ) (mag (0ᶠ +ᶠ hi)) U half_twice (omega arith)))
+    (p.least g d (doubled g (mag ½ᶠ) (mag (0ᶠ +ᶠ hi)) U half_twice (omega arith)))

@@ -34,9 +34,13 @@ part_close p a d n P A D h k =
     let g = p -ᶠ a in
     let G = sub_sized P A h in
     let r = sub_of_finite p a P.num A.num G.num.fine in
-    let c = close_wider E (abs (val p ⊖ val a)) ((n + 1024) * U) (val g) (val p ⊖ val a) (omega (arith, signed_le (sgn p) (mag p), signed_le (sgn a) (mag a), P.size, A.size)) r.close in
+    let c =
+    close_wider E (abs (val p ⊖ val a)) ((n + 1024) * U) (val g) (val p ⊖ val a)
+    (omega (arith, signed_le (sgn p) (mag p), signed_le (sgn a) (mag a), P.size, A.size)) r.close in
     let m = product_close (mul_of_finite g d G.num D.num (mul_sized G D k).num.fine) in
-    let m' = close_wider E (mag g * mag d + U * H) ((n + 1024) * U * (2048 * U) + U * H) (val (g *ᶠ d) ⊗ nat U) (val g ⊗ val d) (more (mag g * mag d) ((n + 1024) * U * (2048 * U)) (U * H) (mul-le-mul G.size D.size)) m in
+    let m' =
+    close_wider E (mag g * mag d + U * H) ((n + 1024) * U * (2048 * U) + U * H) (val (g *ᶠ d) ⊗ nat U) (val g ⊗ val d)
+    (more (mag g * mag d) ((n + 1024) * U * (2048 * U)) (U * H) (mul-le-mul G.size D.size)) m in
     close_chain E ((n + 1024) * U * (2048 * U) + U * H) ((n + 1024) * U * (2048 * U)) (val (g *ᶠ d) ⊗ nat U) (val g ⊗ val d) ((val p ⊖ val a) ⊗ val d) m'
     (scaled_sign ((n + 1024) * U) E (val g) (val p ⊖ val a) (sgn d) (mag d) (2048 * U) D.size c)
   where
@@ -100,7 +104,9 @@ module _ (D L r : Exact) (l u e : ℕ) (h : D ≼ r ⊗ nat l ⊕ nat e) (k : r 
       let i = ap (λ (z : ℕ). t * z) L-is in
       inner (omega (arith, mul-le-mul_left u h, m, i)) (omega (arith, mul-le-mul_left u k, m, i))
 
-module _ (px py ax ay bx by : Float) (PX : Sized px 5120) (PY : Sized py 1024) (cax : Coordinate ax) (cay : Coordinate ay) (cbx : Coordinate bx) (cby : Coordinate by) (w0 : 0 < mag (by -ᶠ ay)) where
+module _
+    (px py ax ay bx by : Float) (PX : Sized px 5120) (PY : Sized py 1024) (cax : Coordinate ax) (cay : Coordinate ay) (cbx : Coordinate bx)
+    (cby : Coordinate by) (w0 : 0 < mag (by -ᶠ ay)) where
   abbrev pub dx : Float
   dx = bx -ᶠ ax
 
@@ -140,12 +146,17 @@ module _ (px py ax ay bx by : Float) (PX : Sized px 5120) (PY : Sized py 1024) (
       let m = (px -ᶠ ax) *ᶠ dx in
       let n = (py -ᶠ ay) *ᶠ dy in
       let s = add_of_finite m n left_sized.num right_sized.num dot_sized.num.fine in
-      let c = close_wider E (abs (val m ⊕ val n)) (16777216 * U) (val dot) (val m ⊕ val n) (omega (arith, signed_le (sgn m) (mag m), signed_le (sgn n) (mag n), left_sized.size, right_sized.size)) s.close in
-      let c' = close_same (16777216 * U * U) (val dot ⊗ nat U) ((val m ⊕ val n) ⊗ nat U) (val dot ⊗ nat U) (val m ⊗ nat U ⊕ val n ⊗ nat U) (omega arith) (omega arith) (scaled_sign (16777216 * U) E (val dot) (val m ⊕ val n) false U U (omega arith) c) in
+      let c =
+      close_wider E (abs (val m ⊕ val n)) (16777216 * U) (val dot) (val m ⊕ val n)
+      (omega (arith, signed_le (sgn m) (mag m), signed_le (sgn n) (mag n), left_sized.size, right_sized.size)) s.close in
+      let c' =
+      close_same (16777216 * U * U) (val dot ⊗ nat U) ((val m ⊕ val n) ⊗ nat U) (val dot ⊗ nat U) (val m ⊗ nat U ⊕ val n ⊗ nat U) (omega arith)
+      (omega arith) (scaled_sign (16777216 * U) E (val dot) (val m ⊕ val n) false U U (omega arith) c) in
       let a = part_close px ax dx 5120 PX (coordinate_sized cax) dx_sized (lit< tt) (lit< tt) in
       let b = part_close py ay dy 1024 PY (coordinate_sized cay) dy_sized (lit< tt) (lit< tt) in
       close_wider E _ (50331648 * (U * U) + 2 * (U * H)) (val dot ⊗ nat U) dot_of (omega arith)
-      (close_chain E _ _ (val dot ⊗ nat U) (val m ⊗ nat U ⊕ val n ⊗ nat U) dot_of c' (sum_close E _ _ (val m ⊗ nat U) ((val px ⊖ val ax) ⊗ val dx) (val n ⊗ nat U) ((val py ⊖ val ay) ⊗ val dy) a b))
+      (close_chain E _ _ (val dot ⊗ nat U) (val m ⊗ nat U ⊕ val n ⊗ nat U) dot_of c'
+      (sum_close E _ _ (val m ⊗ nat U) ((val px ⊖ val ax) ⊗ val dx) (val n ⊗ nat U) ((val py ⊖ val ay) ⊗ val dy) a b))
 
   -- the edge's square
   record Length² : Type 0 where
@@ -160,15 +171,19 @@ module _ (px py ax ay bx by : Float) (PX : Sized px 5120) (PY : Sized py 1024) (
       let y = squared dy (difference cby cay) in
       let s = add_exact x.multiple y.multiple (omega (arith, x.few, y.few)) (omega arith) in
       let S : Sized len2 8388608 = add_sized (mul_sized dx_sized dx_sized (lit< tt)) (mul_sized dy_sized dy_sized (lit< tt)) (lit< tt) in
-      let v : val len2 ≈ nat (mag (dx *ᶠ dx) + mag (dy *ᶠ dy)) = together (val len2) (sgn (dx *ᶠ dx)) (sgn (dy *ᶠ dy)) (mag (dx *ᶠ dx)) (mag (dy *ᶠ dy)) x.plus y.plus s.value in
-      let y0 : slack ≤ mag (dy *ᶠ dy) = unfold slack in (rw y.multiple.is (one_of y.count (2 ^ 1054) (counted y.count (mag (dy *ᶠ dy)) (mag dy) (2 ^ 1054) y.multiple.is y.is w0))) in
+      let v : val len2 ≈ nat (mag (dx *ᶠ dx) + mag (dy *ᶠ dy)) =
+      together (val len2) (sgn (dx *ᶠ dx)) (sgn (dy *ᶠ dy)) (mag (dx *ᶠ dx)) (mag (dy *ᶠ dy)) x.plus y.plus s.value in
+      let y0 : slack ≤ mag (dy *ᶠ dy) =
+      unfold slack in (rw y.multiple.is (one_of y.count (2 ^ 1054) (counted y.count (mag (dy *ᶠ dy)) (mag dy) (2 ^ 1054) y.multiple.is y.is w0))) in
       let p : sgn len2 ≡ false = positive_sign (sgn len2) (mag len2) (mag (dx *ᶠ dx) + mag (dy *ᶠ dy)) v (omega (arith, y0, slack_is, U_pos)) in
       let e : mag len2 ≡ mag (dx *ᶠ dx) + mag (dy *ᶠ dy) = same_size (sgn len2) false (mag len2) (mag (dx *ᶠ dx) + mag (dy *ᶠ dy)) v in
       record {
         sized = S;
         plus = p;
         least = omega (arith, e, y0, slack_is);
-        is = whole (val dx ⊗ val dx) (val dy ⊗ val dy) (mag dx * mag dx) (mag dy * mag dy) (mag (dx *ᶠ dx)) (mag (dy *ᶠ dy)) (mag len2) U (own_square (sgn dx) (mag dx)) (own_square (sgn dy) (mag dy)) x.is y.is e;
+        is =
+            whole (val dx ⊗ val dx) (val dy ⊗ val dy) (mag dx * mag dx) (mag dy * mag dy) (mag (dx *ᶠ dx)) (mag (dy *ᶠ dy)) (mag len2) U
+            (own_square (sgn dx) (mag dx)) (own_square (sgn dy) (mag dy)) x.is y.is e;
       }
     where
       together : (v : Exact) (s t : Bool) (m n : ℕ) → s ≡ false → t ≡ false → v ≈ signed s m ⊕ signed t n → v ≈ nat (m + n)
@@ -212,7 +227,8 @@ module _ (px py ax ay bx by : Float) (PX : Sized px 5120) (PY : Sized py 1024) (
       let c = close_wider E (mag dot * U + mag len2 * H) (16777216 * (U * U) + 8388608 * (U * H)) (val ratio ⊗ nat (mag len2)) (val dot ⊗ nat U)
       (sizes H (mag dot) (mag len2) U dot_sized.size length².sized.size) (rw length².plus at (quotient_close q)) in
       let n = near_enough E _ (slack * U) (val ratio ⊗ nat (mag len2)) dot_of (lit< tt) (room H slack U slack_is (unfold U in lit≤ tt))
-      (close_chain E (16777216 * (U * U) + 8388608 * (U * H)) (50331648 * (U * U) + 2 * (U * H)) (val ratio ⊗ nat (mag len2)) (val dot ⊗ nat U) dot_of c dot_close) in
+      (close_chain E (16777216 * (U * U) + 8388608 * (U * H)) (50331648 * (U * U) + 2 * (U * H)) (val ratio ⊗ nat (mag len2))
+      (val dot ⊗ nat U) dot_of c dot_close) in
       (n.1, n.0)
 
   -- ---- the place along the edge
@@ -238,9 +254,25 @@ module _ (px py ax ay bx by : Float) (PX : Sized px 5120) (PY : Sized py 1024) (
       clamped : Projection (clamp ratio 0ᶠ 1ᶠ)
       clamped =
           clamp_elim ratio 0ᶠ 1ᶠ Projection
-          (λ h. record { sized = wider (omega arith) zero_sized; nonneg = rw zero_val (omega arith); foot = first zero_mag (at_first dot_of square_of (val ratio) (mag len2) U (slack * U) off.0 off.1 length².is (rw zero_val at (lt→≺ ratio 0ᶠ ratio_sized.num zero_num h))) })
-          (λ h. record { sized = one_sized; nonneg = rw one_val (omega arith); foot = last (one_mag) (at_last dot_of square_of (val ratio) (mag len2) U (slack * U) off.0 off.1 length².is (above_one h)) })
-          (λ h k. record { sized = inside h k; nonneg = not_below h; foot = at_inner dot_of square_of (val ratio) (mag len2) U (slack * U) off.0 off.1 length².is (mag ratio) (plain (sgn ratio) (mag ratio) (not_below h)) })
+          (λ h. record {
+            sized = wider (omega arith) zero_sized;
+            nonneg = rw zero_val (omega arith);
+            foot =
+                first zero_mag (at_first dot_of square_of (val ratio) (mag len2) U (slack * U) off.0 off.1 length².is
+                (rw zero_val at (lt→≺ ratio 0ᶠ ratio_sized.num zero_num h)));
+          })
+          (λ h. record {
+            sized = one_sized;
+            nonneg = rw one_val (omega arith);
+            foot = last (one_mag) (at_last dot_of square_of (val ratio) (mag len2) U (slack * U) off.0 off.1 length².is (above_one h));
+          })
+          (λ h k. record {
+            sized = inside h k;
+            nonneg = not_below h;
+            foot =
+                at_inner dot_of square_of (val ratio) (mag len2) U (slack * U) off.0 off.1 length².is
+                (mag ratio) (plain (sgn ratio) (mag ratio) (not_below h));
+          })
         where
           one_mag : mag 1ᶠ ≡ U
           one_mag = unfold of_bits mag U in refl
@@ -252,4 +284,8 @@ module _ (px py ax ay bx by : Float) (PX : Sized px 5120) (PY : Sized py 1024) (
           not_below h = rw zero_val at (¬lt→≼ ratio 0ᶠ ratio_sized.num zero_num h)
 
           inside : T (not (ratio <ᶠ 0ᶠ)) → T (not (1ᶠ <ᶠ ratio)) → Sized ratio 1
-          inside h k = record { num = ratio_sized.num; size = omega (arith, rw one_val at (¬lt→≼ 1ᶠ ratio one_sized.num ratio_sized.num k), plain (sgn ratio) (mag ratio) (not_below h)) }
+          inside h k =
+              record {
+                num = ratio_sized.num;
+                size = omega (arith, rw one_val at (¬lt→≼ 1ᶠ ratio one_sized.num ratio_sized.num k), plain (sgn ratio) (mag ratio) (not_below h));
+              }

@@ -26,7 +26,8 @@ use Rattle.lattice.specs.Escape.{squared_distance}
 use Rattle.relax.specs.declared.Spreading.{Spreading}
 use Rattle.relax.specs.declared.distances.Distances.{Distances}
 use Rattle.relax.specs.Field.{field_of, at, force_on, accepts, clear_of_others}
-use Rattle.relax.specs.Scatter.{Scatter, Surroundings, settle, stepped, try_step, relax_point, max_step_of, relax_sweep, relax_sweeps, clearances_of, honoring_of, idle, relax_scatter}
+use Rattle.relax.specs.Scatter.{Scatter, Surroundings, settle, stepped, try_step, relax_point, max_step_of, relax_sweep, relax_sweeps, clearances_of}
+use Rattle.relax.specs.Scatter.{honoring_of, idle, relax_scatter}
 use Rattle.claims.specs.Claim.{Inset}
 use Rattle.claims.specs.Kept.{Unblocked, Fits, Stands, Kept}
 
@@ -42,7 +43,9 @@ Others R c i [] = Unit {0}
 Others R c zero (x ∷ xs) = Every (R c) xs
 Others R c (suc i) (x ∷ xs) = R c x × Others R c i xs
 
-pairwise_set : {A : Type 0} (R : A → A → Type 0) (both : (x y : A) → R x y → R y x) (xs : List A) (i : ℕ) (c : A) → Pairwise R xs → Others R c i xs → Pairwise R (set xs i c)
+pairwise_set :
+    {A : Type 0} (R : A → A → Type 0) (both : (x y : A) → R x y → R y x) (xs : List A) (i : ℕ) (c : A) → Pairwise R xs → Others R c i xs
+    → Pairwise R (set xs i c)
 pairwise_set R both [] i c h k = tt
 pairwise_set R both (x ∷ xs) zero c h k = (k, h.1)
 pairwise_set R both (x ∷ xs) (suc i) c h k = (every_set (R x) xs i c h.0 (λ l. both c x k.0), pairwise_set R both xs i c h.1 k.1)
@@ -130,12 +133,15 @@ module _
       }
   settled honoring i s c None otherwise f l j o = o
 
-  tried : (honoring : List Bool) (i : ℕ) (p : Point) (ux uy : Float) (tries : ℕ) (step : Float) (s : Scatter) → Loose honoring s → Loose honoring (try_step (surroundings honoring) i p ux uy tries step s)
+  tried :
+      (honoring : List Bool) (i : ℕ) (p : Point) (ux uy : Float) (tries : ℕ) (step : Float) (s : Scatter) → Loose honoring s
+      → Loose honoring (try_step (surroundings honoring) i p ux uy tries step s)
   unfolding try_step
   tried honoring i p ux uy zero step s l = l
   tried honoring i p ux uy (suc tries) step s l =
       let c = stepped p ux uy step in
-      settled honoring i s c (accepts field piece obstacles c i s.points (get_or honoring i false)) (try_step (surroundings honoring) i p ux uy tries (step *ᶠ ½ᶠ) s)
+      settled honoring i s c (accepts field piece obstacles c i s.points (get_or honoring i false))
+      (try_step (surroundings honoring) i p ux uy tries (step *ᶠ ½ᶠ) s)
       (record { across = add-fits binary64 _ _; along = add-fits binary64 _ _ }) l
       (judged i (get_or honoring i false) s.points c)
       (tried honoring i p ux uy tries (step *ᶠ ½ᶠ) s l)
@@ -144,7 +150,9 @@ module _
   still honoring true s t l m = l
   still honoring false s t l m = m
 
-  at_point : (honoring : List Bool) (maxStep : Float) (s : Scatter) (i : ℕ) → Loose honoring s → Loose honoring (relax_point numbers (surroundings honoring) maxStep s i)
+  at_point :
+      (honoring : List Bool) (maxStep : Float) (s : Scatter) (i : ℕ) → Loose honoring s
+      → Loose honoring (relax_point numbers (surroundings honoring) maxStep s i)
   unfolding relax_point
   at_point honoring maxStep s i l =
       let p = at s.points i in
@@ -155,7 +163,9 @@ module _
       (tried honoring i p (f.x /ᶠ m) (f.y /ᶠ m) (suc numbers.backtracks) (maxStep *ᶠ min m 1ᶠ) s l)
 
   -- what a turn keeps, all turns keep
-  folded : {A : Type 0} (honoring : List Bool) (f : Scatter → A → Scatter) → ((s : Scatter) (a : A) → Loose honoring s → Loose honoring (f s a)) → (s : Scatter) (xs : List A) → Loose honoring s → Loose honoring (foldl f s xs)
+  folded :
+      {A : Type 0} (honoring : List Bool) (f : Scatter → A → Scatter) → ((s : Scatter) (a : A) → Loose honoring s → Loose honoring (f s a))
+      → (s : Scatter) (xs : List A) → Loose honoring s → Loose honoring (foldl f s xs)
   folded honoring f h s [] l = l
   folded honoring f h s (x ∷ xs) l = folded honoring f h (f s x) xs (h s x l)
 
@@ -171,7 +181,9 @@ module _
   unfolding honoring_of
   flagged points h i l t = go points i (h t) l
     where
-      go : (ps : List Point) (i : ℕ) → Every (Unblocked obstacles inset) ps → i < length ps → T (get_or (map (λ (p : Point). clear_of_obstacles p.x p.y obstacles inset) ps) i false)
+      go :
+          (ps : List Point) (i : ℕ) → Every (Unblocked obstacles inset) ps → i < length ps
+          → T (get_or (map (λ (p : Point). clear_of_obstacles p.x p.y obstacles inset) ps) i false)
       go [] i e l = absurd (omega arith)
       go (p ∷ ps) zero e l = e.0
       go (p ∷ ps) (suc i) e l = go ps i e.1 (omega arith)
@@ -180,7 +192,9 @@ module _
   unfolding relax_sweeps
   all_swept honoring s l = folded honoring (relax_sweep numbers (surroundings honoring)) (swept honoring) s (up_to numbers.sweeps) l
 
-  pub relaxed : (points : List Point) → Kept piece inset obstacles R strict points → Kept piece inset obstacles R strict (relax_scatter numbers points piece obstacles spacing inset)
+  pub relaxed :
+      (points : List Point) → Kept piece inset obstacles R strict points
+      → Kept piece inset obstacles R strict (relax_scatter numbers points piece obstacles spacing inset)
   unfolding relax_scatter
   relaxed points r = go (idle (length points) spacing)
     where

@@ -72,19 +72,24 @@ not_beside a b t =
     (λ e. never_both (sameℤ b (pred_ℤ a)) (rw (e, pred-suc b) (same_refl b)) n.0)
 
 -- ---- two spots
-module _ (piece : Piece) (n : ℕ) (ctx : PackCtx) (near : List Rectangle) (anchor : Option Point) (min-x max-x min-y max-y : Float) (held : AnchorFits anchor) (l : Length (spacing ctx)) (z : Boxed min-x max-x min-y max-y) where
+module _
+    (piece : Piece) (n : ℕ) (ctx : PackCtx) (near : List Rectangle) (anchor : Option Point) (min-x max-x min-y max-y : Float) (held : AnchorFits anchor)
+    (l : Length (spacing ctx)) (z : Boxed min-x max-x min-y max-y) where
   tested_apart : (q p : Point) → Sited q → Sited p → Tested piece n ctx near anchor min-x max-x min-y max-y held q p → Apart (spacing ctx) q p
   unfolding apart cell_number
   tested_apart q p a b t =
       apart_sym (spacing ctx) p q
-      (go (beside (cell_number min-x (spacing ctx) p.x) (cell_number min-x (spacing ctx) q.x)) (beside (cell_number min-y (spacing ctx) p.y) (cell_number min-y (spacing ctx) q.y))
+      (go (beside (cell_number min-x (spacing ctx) p.x) (cell_number min-x (spacing ctx) q.x))
+      (beside (cell_number min-y (spacing ctx) p.y) (cell_number min-y (spacing ctx) q.y))
       (squared_distance p q ≥ᶠ spacing ctx *ᶠ spacing ctx)
       (λ u. cells_across (spacing ctx) p.x p.y q.x q.y l b.across b.along a.across a.along min-x (wider (omega arith) z.left) (not_beside _ _ u))
       (λ u. cells_along (spacing ctx) p.x p.y q.x q.y l b.across b.along a.across a.along min-y (wider (omega arith) z.bottom) (not_beside _ _ u))
       (λ u. computed_apart (spacing ctx) l.sized p q b a u)
       (rw (cell_size_lem (spacing ctx) l) at t))
     where
-      go : (x y d : Bool) → (T (not x) → Apart (spacing ctx) p q) → (T (not y) → Apart (spacing ctx) p q) → (T d → Apart (spacing ctx) p q) → T (not (x && y) || d) → Apart (spacing ctx) p q
+      go :
+          (x y d : Bool) → (T (not x) → Apart (spacing ctx) p q) → (T (not y) → Apart (spacing ctx) p q) → (T d → Apart (spacing ctx) p q)
+          → T (not (x && y) || d) → Apart (spacing ctx) p q
       go true true d f g h t = h t
       go true false d f g h t = g tt
       go false y d f g h t = f tt
@@ -102,7 +107,8 @@ module _ (anchor : Option Point) (held : AnchorFits anchor) (piece : Piece) (n :
   within_kept None z = none
   within_kept (Some bounds) z =
       let near = local_to piece obstacles (inset ctx) in
-      kept_by piece (inset ctx) near (Tested piece n ctx near anchor bounds.min_x bounds.max_x bounds.min_y bounds.max_y held) (Apart (spacing ctx)) ctx.mode.strict_obstacles
+      kept_by piece (inset ctx) near (Tested piece n ctx near anchor bounds.min_x bounds.max_x bounds.min_y bounds.max_y held)
+      (Apart (spacing ctx)) ctx.mode.strict_obstacles
       (passes piece n ctx near anchor bounds.min_x bounds.max_x bounds.min_y bounds.max_y)
       (λ q p a b t. tested_apart piece n ctx near anchor bounds.min_x bounds.max_x bounds.min_y bounds.max_y held m.length z q p (m.sited q a) (m.sited p b) t)
       (scattered piece n ctx near anchor bounds.min_x bounds.max_x bounds.min_y bounds.max_y held)

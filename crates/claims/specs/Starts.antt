@@ -34,14 +34,18 @@ abbrev ExitSited : Option Exit → Type 0
 ExitSited None = Unit {0}
 ExitSited (Some exit) = Sited exit.place
 
-module _ (piece : Piece) (near : List Rectangle) (inset : Float) (N : Number inset) (sited : (p : Point) → Stands piece inset p → Sited p) (anchor : Point) (a : Sited anchor) where
+module _
+    (piece : Piece) (near : List Rectangle) (inset : Float) (N : Number inset) (sited : (p : Point) → Stands piece inset p → Sited p) (anchor : Point)
+    (a : Sited anchor) where
   considered : (b : Option Exit) (p : Point) → Fits p → ExitSited b → ExitSited (consider anchor piece near inset b p)
   unfolding consider
   considered b p f s =
       go (clear_of_obstacles p.x p.y near inset) (signed_clearance p.x p.y piece <ᶠ inset) (better b (record { square = squared_distance p anchor; place = p }))
       (λ t. not_lt_le inset (signed_clearance p.x p.y piece) N (clearance_number p.x p.y piece) t)
     where
-      go : (c l t : Bool) → (T (not l) → T (inset ≤ᶠ signed_clearance p.x p.y piece)) → ExitSited (cond (not c || l) b (cond t (Some (record { square = squared_distance p anchor; place = p })) b))
+      go :
+          (c l t : Bool) → (T (not l) → T (inset ≤ᶠ signed_clearance p.x p.y piece))
+          → ExitSited (cond (not c || l) b (cond t (Some (record { square = squared_distance p anchor; place = p })) b))
       go false l t h = s
       go true true t h = s
       go true false true h = sited p (record { fits = f; deep = h tt })
@@ -57,7 +61,10 @@ module _ (piece : Piece) (near : List Rectangle) (inset : Float) (N : Number ins
       let x = a.across.num.fit in
       let y = a.along.num.fit in (
         record { across = sub-fits binary64 _ _; along = y },
-        (record { across = add-fits binary64 _ _; along = y }, (record { across = x; along = sub-fits binary64 _ _ }, (record { across = x; along = add-fits binary64 _ _ }, tt))),
+        (
+          record { across = add-fits binary64 _ _; along = y },
+          (record { across = x; along = sub-fits binary64 _ _ }, (record { across = x; along = add-fits binary64 _ _ }, tt)),
+        ),
       )
 
   best_sited : ExitSited (best_exit anchor piece near inset)
@@ -67,7 +74,9 @@ module _ (piece : Piece) (near : List Rectangle) (inset : Float) (N : Number ins
       pad : Float
       pad = inset *ᶠ (1ᶠ +ᶠ 1e-9ᶠ)
 
-      go : (rects : List Rectangle) (b : Option Exit) → ExitSited b → ExitSited (foldl (λ (best : Option Exit) (rect : Rectangle). foldl (consider anchor piece near inset) best (exits anchor pad rect)) b rects)
+      go :
+          (rects : List Rectangle) (b : Option Exit) → ExitSited b
+          → ExitSited (foldl (λ (best : Option Exit) (rect : Rectangle). foldl (consider anchor piece near inset) best (exits anchor pad rect)) b rects)
       go [] b s = s
       go (rect ∷ rects) b s = go rects _ (all_considered (exits anchor pad rect) (exits_fit pad rect) b s)
 

@@ -1,4 +1,4 @@
--- Quotas where there are no shares. No sum above 0, or a NaN: all to the first. An infinite sum, as of an infinite weight: one each to the first, as far as the count goes, so that they may sum short.
+-- Quotas where there are no shares. No sum above 0, or a NaN: all to the first. An infinite sum: one each to the first, as far as the count goes.
 -- Rests on `HandOut`, and on 0 / ∞ and the like being 0.
 use Rattle.std.specs.Prelude.{◌≡◌, ◌⊎◌, true, false, T, get_or, set, replicate, Float}
 use Rattle.std.proofs.Math.Path.{refl, sym}
@@ -20,7 +20,8 @@ use Rattle.glyphs.specs.Apportion.{total, no_weight, assigned, apportion}
 use Rattle.claims.specs.HandOut.{assigned_sum}
 
 -- ---- no weight: all to the first
-pub all_first : (n : ℕ) (weights : List Float) → 0 < length weights → no_weight (total weights) ≡ true → apportion n weights ≡ set (replicate (length weights) 0) 0 n
+pub all_first :
+    (n : ℕ) (weights : List Float) → 0 < length weights → no_weight (total weights) ≡ true → apportion n weights ≡ set (replicate (length weights) 0) 0 n
 unfolding apportion
 all_first n weights l e = rw (ne_eqb (length weights) 0 (λ (z : length weights ≡ 0). omega (arith, l, z)), e) refl
 

@@ -49,7 +49,8 @@ module _ (piece : Piece) (inset : Float) (obstacles : List Rectangle) (cap : Cap
       → Ahead (record { free = cells.free ++ q ∷ []; blocked = cells.blocked }) qs
   freed cells q qs a i u =
       let s = a.sound in
-      let turned : Every (R q) cells.blocked = every_weaken (λ (p : Point). R p q) (R q) cells.blocked (λ p e. both p q e) (heads q qs cells.blocked a.blocked_ahead) in
+      let turned : Every (R q) cells.blocked =
+      every_weaken (λ (p : Point). R p q) (R q) cells.blocked (λ p e. both p q e) (heads q qs cells.blocked a.blocked_ahead) in
       record {
         sound = record {
           free_inset = every_append (Stands piece inset) cells.free (q ∷ []) s.free_inset (i, tt);
@@ -65,7 +66,9 @@ module _ (piece : Piece) (inset : Float) (obstacles : List Rectangle) (cap : Cap
         fits = a.fits.1;
       }
 
-  joined : (q : Point) (bs cs : List Point) → Every (λ (p : Point). Every (R p) bs) cs → Every (λ (p : Point). R p q) cs → Every (λ (p : Point). Every (R p) (bs ++ q ∷ [])) cs
+  joined :
+      (q : Point) (bs cs : List Point) → Every (λ (p : Point). Every (R p) bs) cs → Every (λ (p : Point). R p q) cs
+      → Every (λ (p : Point). Every (R p) (bs ++ q ∷ [])) cs
   joined q bs [] h k = tt
   joined q bs (c ∷ cs) h k = (every_append (R c) bs (q ∷ []) h.0 (k.0, tt), joined q bs cs h.1 k.1)
 
@@ -90,7 +93,13 @@ module _ (piece : Piece) (inset : Float) (obstacles : List Rectangle) (cap : Cap
 
   passed : (cells : HexCells) (q : Point) (qs : List Point) → Ahead cells (q ∷ qs) → Ahead cells qs
   passed cells q qs a =
-      record { sound = a.sound; free_ahead = tails q qs cells.free a.free_ahead; blocked_ahead = tails q qs cells.blocked a.blocked_ahead; ahead = a.ahead.1; fits = a.fits.1 }
+      record {
+        sound = a.sound;
+        free_ahead = tails q qs cells.free a.free_ahead;
+        blocked_ahead = tails q qs cells.blocked a.blocked_ahead;
+        ahead = a.ahead.1;
+        fits = a.fits.1;
+      }
 
   step :
       (cells : HexCells) (q : Point) (qs : List Point) → Ahead cells (q ∷ qs)
@@ -108,7 +117,9 @@ module _ (piece : Piece) (inset : Float) (obstacles : List Rectangle) (cap : Cap
       in_blocked = record { free = cells.free; blocked = cells.blocked ++ q ∷ [] }
 
       go : (i u r : Bool) → (T i → Stands piece inset q) → (T u → Unblocked obstacles inset q)
-          → Sound piece inset obstacles R (cond i (cond u (cond r in_free (judge piece inset obstacles cap in_free qs)) (judge piece inset obstacles cap in_blocked qs)) (judge piece inset obstacles cap cells qs))
+          → Sound piece inset obstacles R
+          (cond i (cond u (cond r in_free (judge piece inset obstacles cap in_free qs)) (judge piece inset obstacles cap in_blocked qs))
+          (judge piece inset obstacles cap cells qs))
       go true true true f g = (freed cells q qs a (f tt) (g tt)).sound
       go true true false f g = later in_free (freed cells q qs a (f tt) (g tt))
       go true false r f g = later in_blocked (walled cells q qs a (f tt))
@@ -124,7 +135,9 @@ module _ (piece : Piece) (inset : Float) (obstacles : List Rectangle) (cap : Cap
   walked ps f h = judged no_cells ps (record { sound = no_cells_lem piece inset obstacles R; free_ahead = tt; blocked_ahead = tt; ahead = h; fits = f })
 
 -- ---- the cells taken
-module _ (piece : Piece) (inset : Float) (obstacles : List Rectangle) (R : Point → Point → Type 0) (both : (p q : Point) → R p q → R q p) (cells : HexCells) (s : Sound piece inset obstacles R cells) (n : ℕ) (anchor : Point) where
+module _
+    (piece : Piece) (inset : Float) (obstacles : List Rectangle) (R : Point → Point → Type 0) (both : (p q : Point) → R p q → R q p) (cells : HexCells)
+    (s : Sound piece inset obstacles R cells) (n : ℕ) (anchor : Point) where
   abbrev sorted_free : List Point
   sorted_free = sort_by_anchor anchor cells.free
 
@@ -154,7 +167,8 @@ module _ (piece : Piece) (inset : Float) (obstacles : List Rectangle) (R : Point
       go true = every_take (Stands piece inset) n sorted_free (sort_every (Stands piece inset) cells.free s.free_inset)
       go false =
           every_append (Stands piece inset) sorted_free more (sort_every (Stands piece inset) cells.free s.free_inset)
-          (every_take (Stands piece inset) (n - length cells.free) (sort_by_anchor anchor cells.blocked) (sort_every (Stands piece inset) cells.blocked s.blocked_inset))
+          (every_take (Stands piece inset) (n - length cells.free) (sort_by_anchor anchor cells.blocked)
+          (sort_every (Stands piece inset) cells.blocked s.blocked_inset))
 
   pub taken_apart : (honoring : Bool) → Pairwise R (take_cells cells n anchor honoring)
   unfolding take_cells

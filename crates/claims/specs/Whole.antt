@@ -58,12 +58,16 @@ different first j k h e =
 below_all : (n : ℕ) → Every (λ (k : ℕ). k < n) (up_to n)
 unfolding up_to
 below_all zero = tt
-below_all (suc n) = every_append (λ (k : ℕ). k < suc n) (up_to n) (n ∷ []) (every_weaken (λ (k : ℕ). k < n) (λ (k : ℕ). k < suc n) (up_to n) (λ k h. omega arith) (below_all n)) (omega arith, tt)
+below_all (suc n) =
+    every_append (λ (k : ℕ). k < suc n) (up_to n) (n ∷ []) (every_weaken (λ (k : ℕ). k < n) (λ (k : ℕ). k < suc n) (up_to n) (λ k h. omega arith) (below_all n))
+    (omega arith, tt)
 
 rising : (n : ℕ) → Pairwise ◌<◌ (up_to n)
 unfolding up_to
 rising zero = tt
-rising (suc n) = pairwise_append ◌<◌ (up_to n) (n ∷ []) (rising n) (tt, tt) (every_weaken (λ (k : ℕ). k < n) (λ (k : ℕ). Every (◌<◌ k) (n ∷ [])) (up_to n) (λ k h. (h, tt)) (below_all n))
+rising (suc n) =
+    pairwise_append ◌<◌ (up_to n) (n ∷ []) (rising n) (tt, tt)
+    (every_weaken (λ (k : ℕ). k < n) (λ (k : ℕ). Every (◌<◌ k) (n ∷ [])) (up_to n) (λ k h. (h, tt)) (below_all n))
 
 -- what holds of each number between the two, and of any two different ones
 module _ (first last : ℤ) where
@@ -81,9 +85,15 @@ module _ (first last : ℤ) where
   unfolding through
   pairwise_through R f = go (up_to (many (last -ℤ first))) (below_all (many (last -ℤ first))) (rising (many (last -ℤ first)))
     where
-      row : (k : ℕ) (ks : List ℕ) → k < many (last -ℤ first) → Every (λ (m : ℕ). m < many (last -ℤ first)) ks → Every (◌<◌ k) ks → Every (R (first +ℤ pos k)) (map (λ (m : ℕ). first +ℤ pos m) ks)
+      row :
+          (k : ℕ) (ks : List ℕ) → k < many (last -ℤ first) → Every (λ (m : ℕ). m < many (last -ℤ first)) ks → Every (◌<◌ k) ks
+          → Every (R (first +ℤ pos k)) (map (λ (m : ℕ). first +ℤ pos m) ks)
       row k [] h hs l = tt
-      row k (m ∷ ms) h hs l = (f (first +ℤ pos k) (first +ℤ pos m) (above_first first k) (below_last first last k h) (above_first first m) (below_last first last m hs.0) (different first k m l.0), row k ms h hs.1 l.1)
+      row k (m ∷ ms) h hs l = (
+        f (first +ℤ pos k) (first +ℤ pos m) (above_first first k) (below_last first last k h) (above_first first m) (below_last first last m hs.0)
+            (different first k m l.0),
+        row k ms h hs.1 l.1,
+      )
 
       go : (ks : List ℕ) → Every (λ (k : ℕ). k < many (last -ℤ first)) ks → Pairwise ◌<◌ ks → Pairwise R (map (λ (k : ℕ). first +ℤ pos k) ks)
       go [] h p = tt

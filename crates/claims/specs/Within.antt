@@ -49,7 +49,8 @@ module _ (x y : Float) (v : Ring) (r : RingKnown v) (fx : T (fits binary64 x)) (
       let i = e.k in
       let j = prev (vertices v) i in
       let p = prev_within (vertices v) i e.within in
-      crossed y (x_at v i) (y_at v i) (x_at v j) (y_at v j) fy (vertex_x v r i e.within) (vertex_y v r i e.within) (vertex_x v r j p) (vertex_y v r j p) (spans y (y_at v i) (y_at v j) e.straddle)
+      crossed y (x_at v i) (y_at v i) (x_at v j) (y_at v j) fy (vertex_x v r i e.within) (vertex_y v r i e.within) (vertex_x v r j p) (vertex_y v r j p)
+      (spans y (y_at v i) (y_at v j) e.straddle)
 
   pub inside_placed : point_in_polygon x y v ≡ true → Placed x y
   inside_placed h =
@@ -81,6 +82,8 @@ inset_within x y inset piece i h = go (within x y piece) (outside x y inset piec
     go false f = absurd (T_not (inset ≤ᶠ signed_clearance x y piece) (no (f refl)) h)
 
 pub inset_placed :
-    (x y inset : Float) (piece : Piece) → PieceKnown piece → T (fits binary64 x) → T (fits binary64 y) → T (0ᶠ <ᶠ inset) → T (inset ≤ᶠ signed_clearance x y piece)
+    (x y inset : Float) (piece : Piece) → PieceKnown piece → T (fits binary64 x) → T (fits binary64 y) → T (0ᶠ <ᶠ inset)
+    → T (inset ≤ᶠ signed_clearance x y piece)
     → Placed x y
-inset_placed x y inset piece k fx fy i h = inside_placed x y (outer piece) (outer_known piece k) fx fy (within_outer x y piece (inset_within x y inset piece i h))
+inset_placed x y inset piece k fx fy i h =
+    inside_placed x y (outer piece) (outer_known piece k) fx fy (within_outer x y piece (inset_within x y inset piece i h))

@@ -39,10 +39,16 @@ pub record Seeded (w : Waiting) (grid : Grid) (w' : Waiting) : Type 0 where
   pub long : length w'.cells.now ≡ length w.cells.now
   pub entered : w'.entered ≡ w'.len
 
+-- the grid has more cells than there is room for; what was lent is as long as before
+pub record Crowded (w : Waiting) (grid : Grid) (w' : Waiting) : Type 0 where
+  pub full : grid ≡ over
+  pub halves : w'.halves.now ≡ w.halves.now
+  pub long : length w'.cells.now ≡ length w.cells.now
+
 -- what `seed` answers
 abbrev pub Seeds : Waiting → Grid → Result Unit NoRoom → Waiting → Type 0
 Seeds w grid (Ok done) w' = Seeded w grid w'
-Seeds w grid (Err full) w' = grid ≡ over
+Seeds w grid (Err none) w' = Crowded w grid w'
 
 module _ (piece : Piece) (halves : List Float) (e : Extents) (side : Float) (room : ℕ) where
   -- the grid from the corner c on, with m cells of it in l
@@ -123,3 +129,10 @@ module _ (piece : Piece) (precision : Float) (room : ℕ) (e : Extents) (side : 
   unfolding search_in finish centre_of
   search_some l m best r k p b x =
       rw (← h, p.is, match_length halves l m p.q m p.match, ← b, k) (x.answer p.q p.match)
+
+-- the table, the few first cells and their light weight leave entries for all
+pub light : (l : List Float) (m : ℕ) (halves : List Float) (grid : Grid) → length l ≤ 500000 → Planted halves l m grid → m + 4 * total heft (cell_at l) m ≤ 4611686018427387904
+light l m halves grid h p =
+    let a = p.weight in
+    let b = p.match.queue.room in
+    omega arith

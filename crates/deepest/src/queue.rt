@@ -80,7 +80,7 @@ fn put(cells: &mut [f64], k: usize, c: Cell)
     cells[a + 4] = f64::from_bits(c.entry);
 }
 
-// Puts a cell among the `m` that wait.
+// Puts a cell among the `m` that wait. The place is halved on its way up, so no `for` counts it.
 pub fn push(cells: &mut [f64], m: usize, halves: &[f64], c: Cell)
     requires { Queue halves.now cells.old m × (m * 5 + 4 < length cells.old) × Tagged c }
     ensures { Pushed halves.now cells.old m c cells.new }
@@ -116,7 +116,7 @@ fn first_child(cells: &[f64], n: usize, halves: &[f64], i: usize) -> usize
     k
 }
 
-// Takes out the cell that leaves first of the `m` that wait.
+// Takes out the cell that leaves first of the `m` that wait. The place is doubled on its way down.
 pub fn pop(cells: &mut [f64], m: usize, halves: &[f64]) -> Cell
     requires { Queue halves.now cells.old m × (0 < m) }
     ensures { Popped halves.now cells.old m result cells.new }

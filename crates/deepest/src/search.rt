@@ -113,7 +113,8 @@ fn push_four(waiting: &mut Waiting, cell: Cell, piece: RegionPiece)
 
 // The search among the cells that wait.
 fn explore(waiting: &mut Waiting, first: Best, precision: f64, piece: RegionPiece) -> Deepest
-    requires { (waiting.old.entered ≡ waiting.old.len) × (waiting.old.len + 4 * total heft (cell_at waiting.old.cells.now) waiting.old.len ≤ 4611686018427387904) }
+    requires entered { waiting.old.entered ≡ waiting.old.len }
+    requires few { waiting.old.len + 4 * total heft (cell_at waiting.old.cells.now) waiting.old.len ≤ 4611686018427387904 }
     ensures { Explored (rings_of piece.entry) waiting.old.halves.now precision waiting.old.cells.now waiting.old.len first result }
 {
     let mut best = first;

@@ -56,7 +56,10 @@ impl Tiling {
 // Puts a cell for each square among those that wait, of which there is none yet.
 pub fn seed(waiting: &mut Waiting, tiling: Tiling, piece: RegionPiece) -> Result<(), NoRoom>
     requires { (waiting.old.len ≡ 0) × (waiting.old.entered ≡ 0) }
-    ensures { Seeds waiting.old (grid_from (rings_of piece.entry) waiting.old.halves.now tiling.bounds tiling.side (length waiting.old.cells.now / 5) (first_corner tiling.bounds) [] 0) result waiting.new }
+    ensures { Seeds waiting.old
+        (grid_from (rings_of piece.entry) waiting.old.halves.now tiling.bounds tiling.side
+        (length waiting.old.cells.now / 5) (first_corner tiling.bounds) [] 0)
+        result waiting.new }
 {
     let h0 = half(waiting.halves, 0);
     let mut next = tiling.first_corner();

@@ -52,7 +52,9 @@ module _ (room : ℕ) (options : GlyphOptions) where
   fold_own gap r-hi (h ∷ hs) o =
       fold_own gap (lowered_by gap r-hi h) hs o.1 ∙ ap (λ (x : Float). foldl (lowers gap) x (zones_of hs)) (lowered_own gap r-hi h o.0)
 
-  pub ceiling_own : (gap : Float) (hs : List Handed) → Every (OwnPoints room options) hs → handed_r_hi hs gap ≡ analytic_r_hi room (zones_of hs) gap options.precision
+  pub ceiling_own :
+      (gap : Float) (hs : List Handed) → Every (OwnPoints room options) hs
+      → handed_r_hi hs gap ≡ analytic_r_hi room (zones_of hs) gap options.precision
   unfolding handed_r_hi analytic_r_hi
   ceiling_own gap hs o = ap if_positive (fold_own gap ∞ hs o)
 
@@ -67,7 +69,8 @@ module _ (room : ℕ) (options : GlyphOptions) where
 
     trials_own :
         (ctx : PackCtx) (obstacles : List Rectangle) (hs : List Handed) → Every (OwnPacking room options) hs
-        → all (holds_all numbers options ctx obstacles) hs ≡ all (λ (zone : Zone). nat_eq (placed_in (pack_region room numbers options ctx obstacles zone)) zone.count) (zones_of hs)
+        → all (holds_all numbers options ctx obstacles) hs
+        ≡ all (λ (zone : Zone). nat_eq (placed_in (pack_region room numbers options ctx obstacles zone)) zone.count) (zones_of hs)
     unfolding all holds_all
     trials_own ctx obstacles [] o = refl
     trials_own ctx obstacles (h ∷ hs) o = rw (pack_own ctx obstacles h o.0, trials_own ctx obstacles hs o.1)
@@ -82,7 +85,8 @@ module _ (room : ℕ) (options : GlyphOptions) where
 
     pub size_own :
         (hs : List Handed) → Every (OwnPacking room options) hs → (obstacles : List Rectangle) (radius : Radius) (ceiling : Option Float)
-        → size_for (handed_feasible numbers options hs) obstacles radius ceiling ≡ size_for (feasible room numbers options (zones_of hs)) obstacles radius ceiling
+        → size_for (handed_feasible numbers options hs) obstacles radius ceiling
+        ≡ size_for (feasible room numbers options (zones_of hs)) obstacles radius ceiling
     size_own hs o obstacles radius ceiling =
         let e : handed_feasible numbers options hs ≡ feasible room numbers options (zones_of hs) =
         fun_ext (λ (obstacles : List Rectangle). fun_ext (λ (r : Float). feasible_own hs o obstacles r)) in
@@ -91,7 +95,8 @@ module _ (room : ℕ) (options : GlyphOptions) where
     -- the radius and the trial counts of `place_glyphs`
     pub sizing_own :
         (given : List Rectangle) (hs : List Handed) → Every (OwnPacking room options) (handed_work hs) → Every (OwnPoints room options) (handed_work hs)
-        → size_for (handed_feasible numbers options (handed_work hs)) (sanitize_obstacles given) options.radius (handed_r_hi (handed_work hs) (boundary_gap_of options))
+        → size_for (handed_feasible numbers options (handed_work hs)) (sanitize_obstacles given) options.radius
+        (handed_r_hi (handed_work hs) (boundary_gap_of options))
         ≡ sizing room numbers options given (zones_of hs)
     unfolding sizing
     sizing_own given hs p d =

@@ -1,10 +1,9 @@
 -- The turns of the search for a radius, counted by the trials made.
 -- Rests on the definition alone.
 use Rattle.std.specs.Prelude.{Some}
-use Rattle.std.proofs.Common.{◌≡◌, ℕ, suc, ◌+◌, ◌-◌, ◌<◌, ◌≤◌, Bool, true, false, cond, [], refl, arith}
+use Rattle.std.proofs.Common.{◌≡◌, ℕ, suc, ◌+◌, ◌-◌, ◌<◌, ◌≤◌, Bool, true, false, cond, refl, arith}
 use lib.Ieee.{Float}
 use Rattle.float.specs.Ops.{◌+ᶠ◌, ◌-ᶠ◌, ◌*ᶠ◌, ◌≤ᶠ◌, ½ᶠ}
-use Rattle.glyphs.specs.Rect.{rectangles, rects_from}
 use Rattle.lattice.specs.Uniform.{1e-3ᶠ}
 use Rattle.discs.specs.Radius.{halve}
 use Rattle.discs.specs.Walk.{narrowed}
@@ -42,8 +41,3 @@ module _ (fits : Float → Bool) (r-hi : Float) where
           ≡ halve fits r-hi turns (narrowed b mid t).lo (narrowed b mid t).hi (narrowed b mid t).best (made + 1)
       go b turns made mid true = unfold narrowed in refl
       go b turns made mid false = unfold narrowed in refl
-
--- the search free of obstacles is over none
-pub no_rectangles : rectangles [] ≡ []
-unfolding rectangles rects_from
-no_rectangles = refl

@@ -1,6 +1,34 @@
 -- What is packed of one piece, by what the packers answer: none, the spots written, or a trial's number of them.
 -- Rests on the definitions, and on the room that was lent.
-use Rattle.std.proofs.Common.{◌≡◌, ℕ, ◌*◌, ◌≤◌, Bool, true, false, cond, not, ◌&&◌, ◌||◌, ltb, leb, List, [], length, sym, refl, ap, ◌∙◌, arith, length-take, eq-eqb, ne_eqb, leb-false, Option, None}
+use Rattle.std.proofs.Common.{
+  ◌≡◌,
+  ℕ,
+  ◌*◌,
+  ◌≤◌,
+  Bool,
+  true,
+  false,
+  cond,
+  not,
+  ◌&&◌,
+  ◌||◌,
+  ltb,
+  leb,
+  List,
+  [],
+  length,
+  sym,
+  refl,
+  ap,
+  ◌∙◌,
+  arith,
+  length-take,
+  eq-eqb,
+  ne_eqb,
+  leb-false,
+  Option,
+  None,
+}
 use lib.Ieee.{Float}
 use Rattle.laws.specs.Lists.{written}
 use Rattle.glyphs.specs.Spots.{flat, length_flat}
@@ -9,21 +37,22 @@ use Rattle.glyphs.specs.declared.options.GlyphArrangement.{GlyphArrangement}
 use Rattle.glyphs.specs.declared.rect.Point.{Point}
 use Rattle.glyphs.specs.declared.rect.Rectangle.{Rectangle}
 use Rattle.glyphs.specs.declared.stream.Stream.{Stream}
+use Rattle.regions.specs.Pieces.{rings_of}
 use Rattle.regions.specs.Ring.{Piece, outer}
 use Rattle.glyphs.specs.Bounds.{ring_bounds}
 use Rattle.deepest.specs.declared.search.Deepest.{Deepest}
 use Rattle.deepest.specs.declared.search.Deepest.TheVariants.{Found, Nothing, Full}
-use Rattle.relax.specs.declared.Spreading.{Spreading}
 use Rattle.lattice.specs.Context.{inset, spacing}
 use Rattle.lattice.specs.Escape.{point}
 use Rattle.lattice.specs.Lattice.{HexCells, at, lattice_valid_cells, take_cells}
 use Rattle.lattice.specs.Uniform.{available, local_to, anchor_of, spread_cells, pack_lattice, pack_around}
 use Rattle.lattice.specs.declared.context.PackCtx.{PackCtx}
 use Rattle.scatter.specs.LowDiscrepancy.{lone_anchor, pack_scatter}
-use Rattle.scatter.specs.Random.{Thrown}
 use Rattle.discs.specs.Region.{pack_uniform_piece, pack_low_discrepancy_piece}
 use Rattle.discs.specs.Pieces.{pack_piece_from, pack_quota, StrictTrial, Packs}
-use Rattle.discs.specs.declared.options.GlyphOptions.{GlyphOptions}
+use Rattle.discs.specs.Bundles.{share_packed}
+use Rattle.discs.specs.declared.bundle.Packing.{Packing}
+use Rattle.discs.specs.declared.bundle.Share.{Share}
 use Rattle.discs.proofs.Written.{written_fits}
 
 -- ---- answers
@@ -53,7 +82,9 @@ no_trial mode e f = let w : ◌≡◌ {A = ℕ} 0 1 = cc in absurd (omega arith)
 -- ---- a lattice
 
 module _ (piece : Piece) (n : ℕ) (ctx : PackCtx) (obstacles : List Rectangle) where
-  pub lattice_none : (found : Deepest) (rectangular : Bool) → ((x y d : Float) → found ≡ Found x y d → ⊥) → pack_uniform_piece found piece n ctx obstacles rectangular ≡ []
+  pub lattice_none :
+      (found : Deepest) (rectangular : Bool) → ((x y d : Float) → found ≡ Found x y d → ⊥)
+      → pack_uniform_piece found piece n ctx obstacles rectangular ≡ []
   unfolding pack_uniform_piece
   lattice_none Nothing rectangular k = refl
   lattice_none Full rectangular k = refl
@@ -67,7 +98,8 @@ module _ (piece : Piece) (n : ℕ) (ctx : PackCtx) (obstacles : List Rectangle) 
 
   -- a trial has no more cells than are wanted
   few :
-      (spread strict : Bool) (anchor : Point) (cells : HexCells) (u w : List Point) (h x : Bool) → spread ≡ false → strict ≡ true → leb n (length cells.free) ≡ h
+      (spread strict : Bool) (anchor : Point) (cells : HexCells) (u w : List Point) (h x : Bool)
+      → spread ≡ false → strict ≡ true → leb n (length cells.free) ≡ h
       → length (cond (not h && strict) (cond spread u cells.free) (cond (x || not spread) (take_cells cells n anchor h) w)) ≤ n
   unfolding take_cells
   few true strict anchor cells u w h x t s e = let z : ◌≡◌ {A = ℕ} 0 1 = cc in absurd (omega arith)
@@ -98,7 +130,9 @@ module _ (piece : Piece) (n : ℕ) (ctx : PackCtx) (obstacles : List Rectangle) 
 
   -- ---- a sequence of low discrepancy
 
-  pub low_none : (found : Deepest) → ((x y d : Float) → found ≡ Found x y d → ⊥) → pack_low_discrepancy_piece found piece n ctx obstacles ≡ pack_scatter None piece n ctx obstacles
+  pub low_none :
+      (found : Deepest) → ((x y d : Float) → found ≡ Found x y d → ⊥)
+      → pack_low_discrepancy_piece found piece n ctx obstacles ≡ pack_scatter None piece n ctx obstacles
   unfolding pack_low_discrepancy_piece
   low_none Nothing k = refl
   low_none Full k = refl
@@ -112,19 +146,14 @@ module _ (piece : Piece) (n : ℕ) (ctx : PackCtx) (obstacles : List Rectangle) 
 
 -- ---- by the arrangement
 
-module _ (numbers : Spreading) (options : GlyphOptions) (ctx : PackCtx) (obstacles : List Rectangle) (found : Deepest) (piece : Piece) (n : ℕ) (rng : Stream) where
-  pub quota_none : n ≡ 0 → pack_quota numbers options ctx obstacles found piece n rng ≡ record { placed = []; rng = rng }
+module _ (packing : Packing) (ctx : PackCtx) (share : Share) (rng : Stream) where
+  pub packed_none : share.quota ≡ 0 → share_packed packing ctx share rng ≡ record { placed = []; rng = rng }
   unfolding pack_quota
-  quota_none e = rw (eq-eqb n 0 e)
+  packed_none e = rw (eq-eqb share.quota 0 e)
 
-  pub quota_some :
-      (arrangement : GlyphArrangement) → (n ≡ 0 → ⊥) → options.arrangement ≡ arrangement
-      → pack_quota numbers options ctx obstacles found piece n rng ≡ pack_piece_from numbers options arrangement ctx obstacles found piece n rng
+  pub packed_by :
+      (arrangement : GlyphArrangement) → (share.quota ≡ 0 → ⊥) → packing.options.arrangement ≡ arrangement
+      → share_packed packing ctx share rng
+      ≡ pack_piece_from packing.numbers packing.options arrangement ctx packing.obstacles.now share.deepest (rings_of share.piece) share.quota rng
   unfolding pack_quota
-  quota_some arrangement h e = rw (ne_eqb n 0 h, e)
-
--- a packing that is another's
-pub packs_as :
-    (mode : PackMode) (n : ℕ) (t s : Thrown) (count : ℕ) (next : Stream) (exit entry : List Float) → t ≡ s
-    → Packs mode n s.placed count exit entry → next ≡ s.rng → Packs mode n t.placed count exit entry × (next ≡ t.rng)
-packs_as mode n t s count next exit entry e p r = rw e (p, r)
+  packed_by arrangement h e = rw (ne_eqb share.quota 0 h, e)

@@ -1,6 +1,30 @@
--- A zone packed from deepest points that are handed in is the definition's zone, where those that a packer starts from are the pieces' own; and what each piece has.
+-- A zone packed from deepest points that are handed in is the definition's zone, where those that a packer starts from are its pieces' own.
 -- Rests on the definitions alone.
-use Rattle.std.specs.Prelude.{◌≡◌, ℕ, zero, suc, ◌<◌, ◌≤◌, Bool, true, false, cond, ◌&&◌, List, [], ◌∷◌, length, ◌==◌, nat_eq, nat_lt, slice_index, slice_index_or, Option, None, Some}
+use Rattle.std.specs.Prelude.{
+  ◌≡◌,
+  ℕ,
+  zero,
+  suc,
+  ◌<◌,
+  ◌≤◌,
+  Bool,
+  true,
+  false,
+  cond,
+  ◌&&◌,
+  List,
+  [],
+  ◌∷◌,
+  length,
+  ◌==◌,
+  nat_eq,
+  nat_lt,
+  slice_index,
+  slice_index_or,
+  Option,
+  None,
+  Some,
+}
 use Rattle.std.proofs.Math.Path.{refl, sym, ap}
 use Rattle.std.proofs.Common.{◌∙◌, arith, lt-ltb}
 use Rattle.std.proofs.lemmas.Bool.{eqb-false}
@@ -54,7 +78,8 @@ module _ (piece : Piece) (quota : ℕ) (ctx : PackCtx) (obstacles : List Rectang
   several e (Found x y clearance) = rw e
 
   low_same :
-      (found other : Deepest) (lone : Bool) (box : Option Extents) → (quota == 1) ≡ lone → ring_bounds (outer piece) ≡ box → ((lone && has_bounds box) ≡ true → found ≡ other)
+      (found other : Deepest) (lone : Bool) (box : Option Extents) → (quota == 1) ≡ lone → ring_bounds (outer piece) ≡ box
+      → ((lone && has_bounds box) ≡ true → found ≡ other)
       → pack_low_discrepancy_piece found piece quota ctx obstacles ≡ pack_low_discrepancy_piece other piece quota ctx obstacles
   unfolding has_bounds
   low_same found other true (Some bounds) e b h = rw (h refl)
@@ -72,7 +97,8 @@ module _ (room : ℕ) (numbers : Spreading) (options : GlyphOptions) (ctx : Pack
   piece_own :
       (arrangement : GlyphArrangement) (found : Deepest) (piece : Piece) (quota : ℕ) (rng : Stream) → (quota == 0) ≡ false
       → (starts_deepest arrangement piece quota ≡ true → found ≡ deepest_of room options piece)
-      → pack_piece_from numbers options arrangement ctx obstacles found piece quota rng ≡ pack_piece room numbers options arrangement ctx obstacles piece quota rng
+      → pack_piece_from numbers options arrangement ctx obstacles found piece quota rng
+      ≡ pack_piece room numbers options arrangement ctx obstacles piece quota rng
   unfolding starts_deepest pack_piece_from pack_piece
   piece_own Uniform found piece quota rng e h = rw (h (some_mark quota e))
   piece_own Rectangular found piece quota rng e h = rw (h (some_mark quota e))
@@ -84,7 +110,8 @@ module _ (room : ℕ) (numbers : Spreading) (options : GlyphOptions) (ctx : Pack
   pieces_more :
       (piece : Piece) (pieces : List Piece) (found : Deepest) (deepests : List Deepest) (quota : ℕ) (quotas : List ℕ) (rng : Stream)
       → (starts_deepest options.arrangement piece quota ≡ true → found ≡ deepest_of room options piece)
-      → ((next : Stream) → pack_pieces_from numbers options ctx obstacles pieces deepests quotas next ≡ pack_pieces room numbers options ctx obstacles pieces quotas next)
+      → ((next : Stream) → pack_pieces_from numbers options ctx obstacles pieces deepests quotas next
+      ≡ pack_pieces room numbers options ctx obstacles pieces quotas next)
       → pack_pieces_from numbers options ctx obstacles (piece ∷ pieces) (found ∷ deepests) (quota ∷ quotas) rng
       ≡ pack_pieces room numbers options ctx obstacles (piece ∷ pieces) (quota ∷ quotas) rng
   unfolding pack_pieces_from pack_quota pack_pieces
@@ -98,7 +125,8 @@ module _ (room : ℕ) (numbers : Spreading) (options : GlyphOptions) (ctx : Pack
 
       go : (b : Bool) → (quota == 0) ≡ b
           → with (cond b (record { placed = []; rng = rng }) (pack_piece_from numbers options options.arrangement ctx obstacles found piece quota rng))
-          ≡ cond b ([] ∷ pack_pieces room numbers options ctx obstacles pieces quotas rng) (own.placed ∷ pack_pieces room numbers options ctx obstacles pieces quotas own.rng)
+          ≡ cond b ([] ∷ pack_pieces room numbers options ctx obstacles pieces quotas rng)
+          (own.placed ∷ pack_pieces room numbers options ctx obstacles pieces quotas own.rng)
       go true e = ap (λ (t : List (List Point)). [] ∷ t) (later rng)
       go false e =
           ap with (piece_own options.arrangement found piece quota rng e h)
@@ -124,7 +152,8 @@ module _ (room : ℕ) (numbers : Spreading) (options : GlyphOptions) (ctx : Pack
 
   -- what is packed of a piece is its own packing, from the stream as it is then
   pub piece_at :
-      (pieces : List Piece) (deepests : List Deepest) (quotas : List ℕ) (rng : Stream) (i : ℕ) → i < length (pack_pieces_from numbers options ctx obstacles pieces deepests quotas rng)
+      (pieces : List Piece) (deepests : List Deepest) (quotas : List ℕ) (rng : Stream) (i : ℕ)
+      → i < length (pack_pieces_from numbers options ctx obstacles pieces deepests quotas rng)
       → (now : Stream)
       × (slice_index_or (pack_pieces_from numbers options ctx obstacles pieces deepests quotas rng) i []
       ≡ (pack_quota numbers options ctx obstacles (slice_index_or deepests i Nothing) (slice_index_or pieces i []) (slice_index quotas i) now).placed)

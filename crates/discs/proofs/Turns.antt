@@ -15,7 +15,7 @@ use Rattle.lattice.specs.declared.context.PackCtx.{PackCtx}
 use Rattle.scatter.specs.Random.{Thrown}
 use Rattle.deepest.specs.declared.search.Deepest.{Deepest}
 use Rattle.discs.specs.Region.{placed_in}
-use Rattle.discs.specs.Pieces.{pack_quota, pack_pieces_from, Packs, PacksAll}
+use Rattle.discs.specs.Pieces.{deepest_from, deepests_of, pack_quota, pack_pieces_from, Packs, PacksAll}
 use Rattle.discs.specs.Joined.{flat_append}
 use Rattle.discs.specs.declared.options.GlyphOptions.{GlyphOptions}
 use Rattle.discs.proofs.Written.{written_at, at_start, at_end, run_next}
@@ -39,82 +39,96 @@ ended f g h (inr t) = h t.0 t.1
 
 -- ---- a turn
 
-module _ (numbers : Spreading) (options : GlyphOptions) (ctx : PackCtx) (obstacles : List Rectangle) (pieces : List Piece) (deepests : List Deepest) (quotas : List ℕ) (start : Stream) (entry : List Float) where
+module _
+    (numbers : Spreading) (options : GlyphOptions) (ctx : PackCtx) (obstacles : List Rectangle) (pieces : List Piece) (deepests : List Deepest)
+    (quotas : List ℕ) (start : Stream) (entry : List Float) where
   abbrev packs : List Piece → List Deepest → List ℕ → Stream → List (List Point)
-  packs = pack_pieces_from numbers options ctx obstacles
+  packs ps ds = pack_pieces_from numbers options ctx obstacles ps (deepests_of ds)
 
   -- what is known before the pieces that are left, with their deepest points and quotas
   pub record Going (ps : List Piece) (ds : List Deepest) (qs : List ℕ) (placed : ℕ) (rng : Stream) (spots : List Float) : Type 0 where
     pub room : placed + sum qs ≤ sum quotas
     pub counts : placed_in (packs pieces deepests quotas start) ≡ placed + placed_in (packs ps ds qs rng)
-    pub writes : ctx.mode.spread ≡ true → written (flat (flatten (packs pieces deepests quotas start))) entry ≡ written_at (placed * 2) (flat (flatten (packs ps ds qs rng))) spots
+    pub writes :
+        ctx.mode.spread ≡ true
+        → written (flat (flatten (packs pieces deepests quotas start))) entry
+        ≡ written_at (placed * 2) (flat (flatten (packs ps ds qs rng))) spots
 
   pub begin : Going pieces deepests quotas 0 start entry
   begin = record { room = omega arith; counts = omega arith; writes = λ e. at_start _ entry }
 
-  module _ (ps : List Piece) (ds : List Deepest) (qs : List ℕ) (placed : ℕ) (rng : Stream) (spots : List Float) (g : Going ps ds qs placed rng spots) where
-    finish : packs ps ds qs rng ≡ [] → PacksAll ctx.mode (packs pieces deepests quotas start) placed spots entry
-    unfolding placed_in flat flatten
-    finish e =
-        record {
-          counted = omega (arith, g.counts ∙ ap (λ (t : List (List Point)). placed + placed_in t) e);
-          spots = λ m. sym (g.writes m ∙ ap (λ (t : List (List Point)). written_at (placed * 2) (flat (flatten t)) spots) e ∙ at_end (placed * 2) spots);
-        }
+module _
+    {numbers : Spreading} {options : GlyphOptions} {ctx : PackCtx} {obstacles : List Rectangle} {pieces : List Piece} {deepests : List Deepest}
+    {quotas : List ℕ} {start : Stream} {entry : List Float} {ps : List Piece} {ds : List Deepest} {qs : List ℕ} {placed : ℕ} {rng : Stream} {spots : List Float}
+    (g : Going numbers options ctx obstacles pieces deepests quotas start entry ps ds qs placed rng spots) where
+  abbrev from : List Piece → List Deepest → List ℕ → Stream → List (List Point)
+  from = packs numbers options ctx obstacles pieces deepests quotas start entry
 
-    pub no_piece : ps ≡ [] → PacksAll ctx.mode (packs pieces deepests quotas start) placed spots entry
+  finish : from ps ds qs rng ≡ [] → PacksAll ctx.mode (from pieces deepests quotas start) placed spots entry
+  unfolding placed_in flat flatten
+  finish e =
+      record {
+        counted = omega (arith, g.counts ∙ ap (λ (t : List (List Point)). placed + placed_in t) e);
+        spots = λ m. sym (g.writes m ∙ ap (λ (t : List (List Point)). written_at (placed * 2) (flat (flatten t)) spots) e ∙ at_end (placed * 2) spots);
+      }
+
+  pub no_piece : ps ≡ [] → PacksAll ctx.mode (from pieces deepests quotas start) placed spots entry
+  unfolding pack_pieces_from
+  no_piece e = finish (rw e)
+
+  pub no_point : ds ≡ [] → PacksAll ctx.mode (from pieces deepests quotas start) placed spots entry
+  unfolding pack_pieces_from
+  no_point e = finish (rw e (go ps))
+    where
+      go : (ps : List Piece) → from ps [] qs rng ≡ []
+      go [] = refl
+      go (p ∷ ps) = refl
+
+  pub no_quota : qs ≡ [] → PacksAll ctx.mode (from pieces deepests quotas start) placed spots entry
+  unfolding pack_pieces_from
+  no_quota e = finish (rw e (go ps ds))
+    where
+      go : (ps : List Piece) (ds : List Deepest) → from ps ds [] rng ≡ []
+      go [] ds = refl
+      go (p ∷ ps) [] = refl
+      go (p ∷ ps) (d ∷ ds) = refl
+
+  -- the next piece
+  module _
+      {piece : Piece} {found : Deepest} {quota : ℕ} {ps' : List Piece} {ds' : List Deepest} {qs' : List ℕ}
+      (ep : ps ≡ piece ∷ ps') (ed : ds ≡ found ∷ ds') (eq : qs ≡ quota ∷ qs') where
+    abbrev thrown : Thrown
+    thrown = pack_quota numbers options ctx obstacles (deepest_from found) piece quota rng
+
+    rooms : placed + quota + sum qs' ≤ sum quotas
+    unfolding sum
+    rooms = let s : sum qs ≡ quota + sum qs' = rw eq in omega (arith, g.room)
+
+    pub quota_fits : placed + quota ≤ sum quotas
+    quota_fits = omega (arith, rooms)
+
+    first : from ps ds qs rng ≡ thrown.placed ∷ from ps' ds' qs' thrown.rng
     unfolding pack_pieces_from
-    no_piece e = finish (rw e)
+    first = rw (ep, ed, eq)
 
-    pub no_point : ds ≡ [] → PacksAll ctx.mode (packs pieces deepests quotas start) placed spots entry
-    unfolding pack_pieces_from
-    no_point e = finish (rw e (go ps))
-      where
-        go : (ps : List Piece) → packs ps [] qs rng ≡ []
-        go [] = refl
-        go (p ∷ ps) = refl
-
-    pub no_quota : qs ≡ [] → PacksAll ctx.mode (packs pieces deepests quotas start) placed spots entry
-    unfolding pack_pieces_from
-    no_quota e = finish (rw e (go ps ds))
-      where
-        go : (ps : List Piece) (ds : List Deepest) → packs ps ds [] rng ≡ []
-        go [] ds = refl
-        go (p ∷ ps) [] = refl
-        go (p ∷ ps) (d ∷ ds) = refl
-
-    -- the next piece
-    module _ (piece : Piece) (found : Deepest) (quota : ℕ) (ps' : List Piece) (ds' : List Deepest) (qs' : List ℕ) (ep : ps ≡ piece ∷ ps') (ed : ds ≡ found ∷ ds') (eq : qs ≡ quota ∷ qs') where
-      abbrev thrown : Thrown
-      thrown = pack_quota numbers options ctx obstacles found piece quota rng
-
-      rooms : placed + quota + sum qs' ≤ sum quotas
-      unfolding sum
-      rooms = let s : sum qs ≡ quota + sum qs' = rw eq in omega (arith, g.room)
-
-      pub quota_fits : placed + quota ≤ sum quotas
-      quota_fits = omega (arith, rooms)
-
-      first : packs ps ds qs rng ≡ thrown.placed ∷ packs ps' ds' qs' thrown.rng
-      unfolding pack_pieces_from
-      first = rw (ep, ed, eq)
-
-      pub turn :
-          (part : List Float) (count : ℕ) (next : Stream)
-          → Packs ctx.mode quota thrown.placed count part (take (placed * 2 + quota * 2 - placed * 2) (drop (placed * 2) spots))
-          → next ≡ thrown.rng → sum quotas * 2 ≤ length spots
-          → Going ps' ds' qs' (placed + count) next (take (placed * 2) spots ++ (part ++ drop (placed * 2 + quota * 2 - placed * 2) (drop (placed * 2) spots)))
-      unfolding placed_in flatten
-      turn part count next p en room =
-          let n = length_flat thrown.placed in
-          let m : (placed + count) * 2 ≡ placed * 2 + length (flat thrown.placed) = omega (arith, p.counted) in
-          rw en
-          (record {
-            room = omega (arith, p.most, rooms);
-            counts = omega (arith, g.counts, p.counted, ap placed_in first);
-            writes = λ x.
-                g.writes x
-                ∙ ap (λ (t : List (List Point)). written_at (placed * 2) (flat (flatten t)) spots) first
-                ∙ rw (flat_append thrown.placed, m)
-                (run_next (placed * 2) (placed * 2 + quota * 2 - placed * 2) (flat thrown.placed) _ spots part (p.spots x)
-                (omega (arith, n, p.counted, p.most)) (omega (arith, rooms)));
-          })
+    pub turn :
+        (part : List Float) (count : ℕ) (next : Stream)
+        → Packs ctx.mode quota thrown.placed count part (take (placed * 2 + quota * 2 - placed * 2) (drop (placed * 2) spots))
+        → next ≡ thrown.rng → sum quotas * 2 ≤ length spots
+        → Going numbers options ctx obstacles pieces deepests quotas start entry ps' ds' qs' (placed + count) next
+        (take (placed * 2) spots ++ (part ++ drop (placed * 2 + quota * 2 - placed * 2) (drop (placed * 2) spots)))
+    unfolding placed_in flatten
+    turn part count next p en room =
+        let n = length_flat thrown.placed in
+        let m : (placed + count) * 2 ≡ placed * 2 + length (flat thrown.placed) = omega (arith, p.counted) in
+        rw en
+        (record {
+          room = omega (arith, p.most, rooms);
+          counts = omega (arith, g.counts, p.counted, ap placed_in first);
+          writes = λ x.
+              g.writes x
+              ∙ ap (λ (t : List (List Point)). written_at (placed * 2) (flat (flatten t)) spots) first
+              ∙ rw (flat_append thrown.placed, m)
+              (run_next (placed * 2) (placed * 2 + quota * 2 - placed * 2) (flat thrown.placed) _ spots part (p.spots x)
+              (omega (arith, n, p.counted, p.most)) (omega (arith, rooms)));
+        })

@@ -1,6 +1,34 @@
 -- A list written over a part of another, run after run.
 -- Rests on the kit's laws of lists.
-use Rattle.std.proofs.Common.{◌≡◌, ℕ, zero, suc, ◌+◌, ◌-◌, ◌≤◌, List, [], ◌∷◌, ◌++◌, length, take, drop, sym, refl, ap, ◌∙◌, append_assoc, arith, length-append, length-drop, length-take, take_all, drop-drop, take_at, drop_at}
+use Rattle.std.proofs.Common.{
+  ◌≡◌,
+  ℕ,
+  zero,
+  suc,
+  ◌+◌,
+  ◌-◌,
+  ◌≤◌,
+  List,
+  [],
+  ◌∷◌,
+  ◌++◌,
+  length,
+  take,
+  drop,
+  sym,
+  refl,
+  ap,
+  ◌∙◌,
+  append_assoc,
+  arith,
+  length-append,
+  length-drop,
+  length-take,
+  take_all,
+  drop-drop,
+  take_at,
+  drop_at,
+}
 use lib.Seq.{drop-append-le}
 use Rattle.laws.specs.Lists.{written}
 
@@ -33,7 +61,8 @@ module _ {A : Type 0} where
       let p : length (take a l ++ xs) ≡ a + n = simp (length-append, length-take) (omega arith) in
       let tail : drop (length (xs ++ ys)) (drop a l) ≡ drop (length ys) r =
       ap (λ (k : ℕ). drop k (drop a l)) (length-append xs ys) ∙ sym (drop-drop (length ys) (length xs) (drop a l)) in
-      let q : take (a + n) (take a l ++ (xs ++ r)) ++ (ys ++ drop (length ys) (drop (a + n) (take a l ++ (xs ++ r)))) ≡ (take a l ++ xs) ++ (ys ++ drop (length ys) r) =
+      let q : take (a + n) (take a l ++ (xs ++ r)) ++ (ys ++ drop (length ys) (drop (a + n) (take a l ++ (xs ++ r))))
+      ≡ (take a l ++ xs) ++ (ys ++ drop (length ys) r) =
       rw (← append_assoc (take a l) xs r, take_at (take a l ++ xs) r (a + n) p, drop_at (take a l ++ xs) r (a + n) p) in
       let regroup : take a l ++ ((xs ++ ys) ++ drop (length ys) r) ≡ (take a l ++ xs) ++ (ys ++ drop (length ys) r) = simp append_assoc in
       ap (λ (t : List A). take a l ++ ((xs ++ ys) ++ t)) tail ∙ regroup ∙ sym q

@@ -1,14 +1,46 @@
 -- A turn of the walks over a job's zones, and what is known of a zone where it stands.
 -- Rests on the kit's laws of lists.
-use Rattle.std.proofs.Common.{get_or, ◌≡◌, ℕ, suc, ◌+◌, ◌-◌, ◌*◌, ◌<◌, ◌≤◌, Bool, true, false, cond, ◌&&◌, List, [], ◌∷◌, ◌++◌, length, take, drop, refl, ap, ◌∙◌, arith, length-drop, length-take, take-add, add-one, drop-cons, drop_of_length-le}
+use Rattle.std.proofs.Common.{
+  get_or,
+  ◌≡◌,
+  ℕ,
+  suc,
+  ◌+◌,
+  ◌-◌,
+  ◌*◌,
+  ◌<◌,
+  ◌≤◌,
+  Bool,
+  true,
+  false,
+  cond,
+  ◌&&◌,
+  List,
+  [],
+  ◌∷◌,
+  ◌++◌,
+  length,
+  take,
+  drop,
+  refl,
+  ap,
+  ◌∙◌,
+  arith,
+  length-drop,
+  length-take,
+  take-add,
+  add-one,
+  drop-cons,
+  drop_of_length-le,
+}
 use mathlib.Core.List.{foldl}
 use lib.Ieee.{Float}
 use Rattle.laws.specs.Any.{all}
 use Rattle.regions.specs.Ring.{sum}
 use Rattle.deepest.specs.declared.search.Deepest.{Deepest}
-use Rattle.discs.specs.Pieces.{pieces_of, Laid, Lent}
+use Rattle.discs.specs.Pieces.{pieces_of, Laid}
 use Rattle.discs.specs.PlaceGlyphs.{is_left_in}
-use Rattle.discs.specs.Floor.{row_is_left_in, cut, past_row, Handed, handed_at, handed_from, handed_work, lowered_by, holds_all, EachRow, Packable, Lends}
+use Rattle.discs.specs.Floor.{row_is_left_in, cut, past_row, Handed, handed_at, handed_from, handed_work, lowered_by, holds_all, EachRow}
 use Rattle.discs.specs.Walk.{lowering, holding}
 use Rattle.glyphs.specs.declared.rect.Rectangle.{Rectangle}
 use Rattle.relax.specs.declared.Spreading.{Spreading}
@@ -54,77 +86,73 @@ laid_coords (n ∷ rings) sizes coords l =
     (omega (arith, l.0.within, length-drop v coords, laid_coords rings (drop n sizes) (drop v coords) l.1))
 
 module _ (s rings sizes : List ℕ) (coords : List Float) (quotas : List ℕ) (deepest : List Deepest) where
-  pub left_in : (row : Row) (at : Offsets) → at.piece + row.pieces ≤ length rings → is_left_in (handed_at s rings sizes coords quotas deepest row at).zone ≡ row_is_left_in row
+  pub left_in :
+      (row : Row) (at : Offsets) → at.piece + row.pieces ≤ length rings
+      → is_left_in (handed_at s rings sizes coords quotas deepest row at).zone ≡ row_is_left_in row
   unfolding is_left_in handed_at row_is_left_in
   left_in row at h = rw (length_pieces, length_cut at.piece row.pieces rings h)
 
-  -- the parts that the code hands on
-  module _ (row : Row) (at : Offsets) where
-    pub lent_parts :
-        (obstacles near second : List Float) (flags : List Bool) (spots : List Float) → Packable s rings sizes coords quotas deepest row at → row_is_left_in row ≡ true → Lends obstacles near second flags spots
-        → Lent (cut at.piece row.pieces rings) (take (at.piece + row.pieces - at.piece) (drop at.piece quotas)) (take (at.piece + row.pieces - at.piece) (drop at.piece deepest)) obstacles near second flags spots
-    lent_parts obstacles near second flags spots p left l =
-        let r : length (cut at.piece row.pieces rings) ≡ row.pieces = length_cut at.piece row.pieces rings p.stands.pieces in
-        let q : length (cut at.piece row.pieces quotas) ≡ row.pieces = length_cut at.piece row.pieces quotas p.shared in
-        let d : length (cut at.piece row.pieces deepest) ≡ row.pieces = length_cut at.piece row.pieces deepest p.stands.points in
-        rw (part_is at.piece row.pieces quotas, part_is at.piece row.pieces deepest)
-        (record {
-          each_quota = omega arith;
-          each_deepest = omega arith;
-          room_near = l.room_near;
-          room_second = omega (arith, p.few left, l.room_second);
-          room_flags = omega (arith, p.few left, l.room_flags);
-          room_spots = omega (arith, p.few left, l.room_spots);
-        })
+-- ---- all zones
 
-  -- ---- all zones
+-- what is read of a list of rows past its end
+abbrev pub no_row : Row
+no_row = record { key = 0; len = 0; count = 0; pieces = 0 }
 
-  module _ (rows : List Row) (k : ℕ) (at : Offsets) where
-    handed_turn :
-        (d : Row) → k < length rows
-        → handed_from s rings sizes coords quotas deepest (drop k rows) at
-        ≡ handed_at s rings sizes coords quotas deepest (get_or rows k d) at ∷ handed_from s rings sizes coords quotas deepest (drop (k + 1) rows) (past_row rings sizes (get_or rows k d) at)
-    unfolding handed_from
-    handed_turn d h = rw (add-one k, drop-cons rows k d h)
+module _ (s rings sizes : List ℕ) (coords : List Float) (quotas : List ℕ) (deepest : List Deepest) (rows : List Row) (k : ℕ) (at : Offsets) where
+  -- the zone of row k, and the zones of the rows from j on
+  abbrev here : Handed
+  here = handed_at s rings sizes coords quotas deepest (get_or rows k no_row) at
 
-    pub handed_end : length rows ≤ k → handed_work (handed_from s rings sizes coords quotas deepest (drop k rows) at) ≡ []
-    unfolding handed_from handed_work
-    handed_end h = rw (drop_of_length-le rows h)
+  abbrev from : ℕ → Offsets → List Handed
+  from j at = handed_from s rings sizes coords quotas deepest (drop j rows) at
 
-    pub ceiling_turn :
-        (d : Row) {next : Offsets} {lower : Float} (gap r-hi : Float) → k < length rows
-        → lower ≡ lowering gap r-hi (handed_at s rings sizes coords quotas deepest (get_or rows k d) at) → next ≡ past_row rings sizes (get_or rows k d) at
-        → foldl (lowered_by gap) r-hi (handed_work (handed_from s rings sizes coords quotas deepest (drop k rows) at))
-        ≡ foldl (lowered_by gap) lower (handed_work (handed_from s rings sizes coords quotas deepest (drop (k + 1) rows) next))
-    ceiling_turn d gap r-hi h l n = rw (handed_turn d h, l, n) (fold_work gap r-hi (handed_at s rings sizes coords quotas deepest (get_or rows k d) at) _)
-      where
-        go : (gap r-hi : Float) (b : Bool) (x : Handed) (xs : List Handed)
-            → foldl (lowered_by gap) r-hi (cond b (x ∷ xs) xs) ≡ foldl (lowered_by gap) (cond b (lowered_by gap r-hi x) r-hi) xs
-        go gap r-hi true x xs = refl
-        go gap r-hi false x xs = refl
+  abbrev past : Offsets
+  past = past_row rings sizes (get_or rows k no_row) at
 
-        fold_work : (gap r-hi : Float) (x : Handed) (xs : List Handed)
-            → foldl (lowered_by gap) r-hi (handed_work (x ∷ xs)) ≡ foldl (lowered_by gap) (lowering gap r-hi x) (handed_work xs)
-        fold_work gap r-hi x xs = unfold handed_work lowering in go gap r-hi (is_left_in x.zone) x (handed_work xs)
+  handed_turn : k < length rows → from k at ≡ here ∷ from (k + 1) past
+  unfolding handed_from
+  handed_turn h = rw (add-one k, drop-cons rows k no_row h)
 
-    all_cond : (p : Handed → Bool) (b : Bool) (x : Handed) (xs : List Handed) → all p (cond b (x ∷ xs) xs) ≡ cond b (p x) true && all p xs
-    unfolding all
-    all_cond p true x xs = refl
-    all_cond p false x xs = refl
+  pub handed_end : length rows ≤ k → handed_work (from k at) ≡ []
+  unfolding handed_from handed_work
+  handed_end h = rw (drop_of_length-le rows h)
 
-    pub trial_turn :
-        (d : Row) {holds : Bool} (numbers : Spreading) (options : GlyphOptions) (ctx : PackCtx) (obstacles : List Rectangle) (next : Offsets) → k < length rows
-        → holds ≡ holding numbers options ctx obstacles (handed_at s rings sizes coords quotas deepest (get_or rows k d) at) → next ≡ past_row rings sizes (get_or rows k d) at
-        → all (holds_all numbers options ctx obstacles) (handed_work (handed_from s rings sizes coords quotas deepest (drop k rows) at))
-        ≡ holds && all (holds_all numbers options ctx obstacles) (handed_work (handed_from s rings sizes coords quotas deepest (drop (k + 1) rows) next))
-    trial_turn d numbers options ctx obstacles next h l n =
-        rw (handed_turn d h, l, n) (all_work (holds_all numbers options ctx obstacles) (handed_at s rings sizes coords quotas deepest (get_or rows k d) at) _ ∙ unfold holding in refl)
-      where
-        all_work : (p : Handed → Bool) (x : Handed) (xs : List Handed) → all p (handed_work (x ∷ xs)) ≡ cond (is_left_in x.zone) (p x) true && all p (handed_work xs)
-        all_work p x xs = unfold handed_work in all_cond p (is_left_in x.zone) x (handed_work xs)
+  pub ceiling_turn :
+      {next : Offsets} {lower : Float} (gap r-hi : Float) → k < length rows
+      → lower ≡ lowering gap r-hi here → next ≡ past
+      → foldl (lowered_by gap) r-hi (handed_work (from k at))
+      ≡ foldl (lowered_by gap) lower (handed_work (from (k + 1) next))
+  ceiling_turn gap r-hi h l n = rw (handed_turn h, l, n) (fold_work gap r-hi here _)
+    where
+      go : (gap r-hi : Float) (b : Bool) (x : Handed) (xs : List Handed)
+          → foldl (lowered_by gap) r-hi (cond b (x ∷ xs) xs) ≡ foldl (lowered_by gap) (cond b (lowered_by gap r-hi x) r-hi) xs
+      go gap r-hi true x xs = refl
+      go gap r-hi false x xs = refl
+
+      fold_work : (gap r-hi : Float) (x : Handed) (xs : List Handed)
+          → foldl (lowered_by gap) r-hi (handed_work (x ∷ xs)) ≡ foldl (lowered_by gap) (lowering gap r-hi x) (handed_work xs)
+      fold_work gap r-hi x xs = unfold handed_work lowering in go gap r-hi (is_left_in x.zone) x (handed_work xs)
+
+  all_cond : (p : Handed → Bool) (b : Bool) (x : Handed) (xs : List Handed) → all p (cond b (x ∷ xs) xs) ≡ cond b (p x) true && all p xs
+  unfolding all
+  all_cond p true x xs = refl
+  all_cond p false x xs = refl
+
+  pub trial_turn :
+      {holds : Bool} (numbers : Spreading) (options : GlyphOptions) (ctx : PackCtx) (obstacles : List Rectangle) (next : Offsets) → k < length rows
+      → holds ≡ holding numbers options ctx obstacles here → next ≡ past
+      → all (holds_all numbers options ctx obstacles) (handed_work (from k at))
+      ≡ holds && all (holds_all numbers options ctx obstacles) (handed_work (from (k + 1) next))
+  trial_turn numbers options ctx obstacles next h l n =
+      rw (handed_turn h, l, n) (all_work (holds_all numbers options ctx obstacles) here _ ∙ unfold holding in refl)
+    where
+      all_work :
+          (p : Handed → Bool) (x : Handed) (xs : List Handed)
+          → all p (handed_work (x ∷ xs)) ≡ cond (is_left_in x.zone) (p x) true && all p (handed_work xs)
+      all_work p x xs = unfold handed_work in all_cond p (is_left_in x.zone) x (handed_work xs)
 
 pub each_turn :
-    (rings sizes : List ℕ) (P : Row → Offsets → Type 0) (rows : List Row) (k : ℕ) (d : Row) (at : Offsets) → k < length rows → EachRow rings sizes P (drop k rows) at
-    → P (get_or rows k d) at × EachRow rings sizes P (drop (k + 1) rows) (past_row rings sizes (get_or rows k d) at)
+    (rings sizes : List ℕ) (P : Row → Offsets → Type 0) (rows : List Row) (k : ℕ) (at : Offsets) → k < length rows → EachRow rings sizes P (drop k rows) at
+    → P (get_or rows k no_row) at × EachRow rings sizes P (drop (k + 1) rows) (past_row rings sizes (get_or rows k no_row) at)
 unfolding EachRow
-each_turn rings sizes P rows k d at h e = rw (add-one k) (rw (drop-cons rows k d h) at e)
+each_turn rings sizes P rows k at h e = rw (add-one k) (rw (drop-cons rows k no_row h) at e)

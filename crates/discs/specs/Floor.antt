@@ -17,7 +17,7 @@ use Rattle.lattice.specs.declared.context.PackCtx.{PackCtx}
 use Rattle.discs.specs.Region.{Zone, placed_in}
 use Rattle.discs.specs.Radius.{context_at, area_of, lowered, if_positive, probe}
 use Rattle.discs.specs.PlaceGlyphs.{is_left_in}
-use Rattle.discs.specs.Pieces.{pieces_of, pack_pieces_from, Laid, laid_prop}
+use Rattle.discs.specs.Pieces.{pieces_of, deepests_of, pack_pieces_from, Laid, laid_prop}
 use Rattle.discs.specs.declared.options.GlyphOptions.{GlyphOptions}
 use Rattle.discs.specs.declared.rows.Offsets.{Offsets}
 use Rattle.discs.specs.declared.rows.Row.{Row}
@@ -59,7 +59,7 @@ module _ (s rings sizes : List ℕ) (coords : List Float) (quotas : List ℕ) (d
           pieces = pieces_of (cut at.piece row.pieces rings) (drop at.ring sizes) (drop at.coord coords);
         };
         quotas = cut at.piece row.pieces quotas;
-        deepests = cut at.piece row.pieces deepest;
+        deepests = deepests_of (cut at.piece row.pieces deepest);
       }
 
   -- the zones of these rows
@@ -105,6 +105,13 @@ unfoldable pub EachRow : List ℕ → List ℕ → (Row → Offsets → Type 0) 
 EachRow rings sizes P [] at = Unit {0}
 EachRow rings sizes P (row ∷ rows) at = P row at × EachRow rings sizes P rows (past_row rings sizes row at)
 
+-- a zone's pieces lie within the slices
+pub record Within (rings sizes : List ℕ) (coords : List Float) (row : Row) (at : Offsets) : Type 0 where
+  pub pieces : at.piece + row.pieces ≤ length rings
+  pub ring : at.ring ≤ length sizes
+  pub coord : at.coord ≤ length coords
+  pub laid : Laid (cut at.piece row.pieces rings) (drop at.ring sizes) (drop at.coord coords)
+
 -- a zone has at most 2,000 marks, its pieces lie within the slices, and each has a deepest point
 pub record Stands (rings sizes : List ℕ) (coords : List Float) (deepest : List Deepest) (row : Row) (at : Offsets) : Type 0 where
   pub pieces : at.piece + row.pieces ≤ length rings
@@ -124,7 +131,9 @@ pub record Packable (s rings sizes : List ℕ) (coords : List Float) (quotas : L
 abbrev pub Floor : List ℕ → List Row → List ℕ → List ℕ → List Float → List ℕ → List Deepest → Type 0
 Floor s rows rings sizes coords quotas deepest = EachRow rings sizes (Packable s rings sizes coords quotas deepest) rows start
 
-stands_prop : (rings sizes : List ℕ) (coords : List Float) (deepest : List Deepest) (row : Row) (at : Offsets) → IsProp (Stands rings sizes coords deepest row at)
+stands_prop :
+    (rings sizes : List ℕ) (coords : List Float) (deepest : List Deepest) (row : Row) (at : Offsets)
+    → IsProp (Stands rings sizes coords deepest row at)
 stands_prop rings sizes coords deepest row at a b = λ i. record {
   pieces = le_prop a.pieces b.pieces i;
   ring = le_prop a.ring b.ring i;
@@ -144,7 +153,9 @@ packable_prop s rings sizes coords quotas deepest row at a b = λ i. record {
   few = λ e. le_prop (a.few e) (b.few e) i;
 }
 
-each_prop : (rings sizes : List ℕ) (P : Row → Offsets → Type 0) → ((row : Row) (at : Offsets) → IsProp (P row at)) → (rows : List Row) (at : Offsets) → IsProp (EachRow rings sizes P rows at)
+each_prop :
+    (rings sizes : List ℕ) (P : Row → Offsets → Type 0) → ((row : Row) (at : Offsets) → IsProp (P row at))
+    → (rows : List Row) (at : Offsets) → IsProp (EachRow rings sizes P rows at)
 unfolding EachRow
 each_prop rings sizes P p [] at a b = λ i. tt
 each_prop rings sizes P p (row ∷ rows) at a b = λ i. (p row at a.0 b.0 i, each_prop rings sizes P p rows (past_row rings sizes row at) a.1 b.1 i)
@@ -156,7 +167,7 @@ floor_prop s rows rings sizes coords quotas deepest =
     each_prop rings sizes (Packable s rings sizes coords quotas deepest) (packable_prop s rings sizes coords quotas deepest) rows start
 
 -- what is lent has room for the obstacles and for 2,000 marks
-pub record Lends (obstacles near second : List Float) (flags : List Bool) (spots : List Float) : Type 0 where
+pub record Lends (obstacles near : List Rectangle) (second : List Float) (flags : List Bool) (spots : List Float) : Type 0 where
   pub room_near : length obstacles ≤ length near
   pub room_second : 4000 ≤ length second
   pub room_flags : 2000 ≤ length flags

@@ -8,7 +8,7 @@ use Rattle.discs.specs.Region.{Zone, quotas, deepest_of}
 use Rattle.discs.specs.PieceLaws.{Own}
 use Rattle.discs.specs.declared.options.GlyphOptions.{GlyphOptions}
 use Rattle.discs.specs.PlaceGlyphs.{is_left_in, work_of, size_for}
-use Rattle.discs.specs.Floor.{past_row, Handed, handed_work, EachRow, Stands, Packable}
+use Rattle.discs.specs.Floor.{past_row, Handed, handed_work, EachRow, Stands, Within, Packable}
 use Rattle.discs.specs.declared.options.Radius.TheVariants.{Stated}
 use Rattle.discs.specs.declared.rows.Offsets.{Offsets}
 use Rattle.discs.specs.declared.rows.Row.{Row}
@@ -55,3 +55,8 @@ unfolding EachRow
 rows_stand s rings sizes coords quotas deepest [] at e = tt
 rows_stand s rings sizes coords quotas deepest (row ∷ rows) at e =
     (e.0.stands, rows_stand s rings sizes coords quotas deepest rows (past_row rings sizes row at) e.1)
+
+pub stands_within :
+    {rings sizes : List ℕ} {coords : List Float} {deepest : List Deepest} {row : Row} {at : Offsets}
+    → Stands rings sizes coords deepest row at → Within rings sizes coords row at
+stands_within h = record { pieces = h.pieces; ring = h.ring; coord = h.coord; laid = h.laid }

@@ -1,6 +1,6 @@
--- A zone packed from deepest points that are handed in is the definition's zone, where those that a packer starts from are the pieces' own; and what each piece has.
+-- What it is for the deepest points that a packer starts from to be the pieces' own.
 -- Rests on the definitions alone.
-use Rattle.std.specs.Prelude.{◌≡◌, ℕ, true, List, [], ◌∷◌, Some, None}
+use Rattle.std.specs.Prelude.{◌≡◌, ℕ, true, List, [], ◌∷◌}
 use Rattle.regions.specs.Ring.{Piece}
 use Rattle.deepest.specs.declared.search.Deepest.{Deepest}
 use Rattle.discs.specs.Region.{quotas, deepest_of}

@@ -1,10 +1,10 @@
 -- discs.rs, `pack_region`, over a zone that lies in flat slices, with its quotas and the deepest points of its pieces handed in. Definitions only.
-use Rattle.std.specs.Prelude.{◌≡◌, ℕ, ◌*◌, ◌<◌, ◌≤◌, Bool, true, false, cond, List, [], ◌∷◌, length, take, drop, ◌==◌, Float}
+use Rattle.std.specs.Prelude.{◌≡◌, ℕ, ◌*◌, ◌<◌, ◌≤◌, true, false, cond, List, [], ◌∷◌, map, length, take, drop, ◌==◌, Float}
 use mathlib.Core.List.{flatten}
 use native.Mathlib.Bridge.{le_prop}
 use Rattle.laws.specs.Lists.{written}
+use Rattle.float.specs.Ops.{◌>ᶠ◌, 0ᶠ}
 use Rattle.glyphs.specs.Hash.{fnv1a}
-use Rattle.glyphs.specs.Rect.{rectangles}
 use Rattle.glyphs.specs.Spots.{flat}
 use Rattle.glyphs.specs.Stream.{seeded}
 use Rattle.glyphs.specs.declared.mode.PackMode.{PackMode}
@@ -15,6 +15,7 @@ use Rattle.glyphs.specs.declared.rect.Rectangle.{Rectangle}
 use Rattle.glyphs.specs.declared.stream.Stream.{Stream}
 use Rattle.regions.specs.Ring.{Piece, piece_of, sum}
 use Rattle.deepest.specs.declared.search.Deepest.{Deepest}
+use Rattle.deepest.specs.declared.search.Deepest.TheVariants.{Found, Nothing, Full}
 use Rattle.relax.specs.declared.Spreading.{Spreading}
 use Rattle.lattice.specs.declared.context.PackCtx.{PackCtx}
 use Rattle.scatter.specs.Random.{Thrown, pack_random_piece}
@@ -28,14 +29,27 @@ unfoldable pub pieces_of : List ℕ → List ℕ → List Float → List Piece
 pieces_of [] sizes coords = []
 pieces_of (n ∷ rings) sizes coords = piece_of (take n sizes) coords ∷ pieces_of rings (drop n sizes) (drop (sum (take n sizes) * 2) coords)
 
+-- a deepest point as it is read; there is none where the clearance is not above 0
+unfoldable pub deepest_from : Deepest → Deepest
+deepest_from Nothing = Nothing
+deepest_from Full = Full
+deepest_from (Found x y clearance) = cond (clearance >ᶠ 0ᶠ) (Found x y clearance) Nothing
+
+abbrev pub deepests_of : List Deepest → List Deepest
+deepests_of deepests = map deepest_from deepests
+
 -- ---- the packing
 
 -- one piece, by the arrangement; only Random draws from the stream
 unfoldable pub pack_piece_from : Spreading → GlyphOptions → GlyphArrangement → PackCtx → List Rectangle → Deepest → Piece → ℕ → Stream → Thrown
-pack_piece_from numbers options Uniform ctx obstacles found piece quota rng = record { placed = pack_uniform_piece found piece quota ctx obstacles false; rng = rng }
-pack_piece_from numbers options Rectangular ctx obstacles found piece quota rng = record { placed = pack_uniform_piece found piece quota ctx obstacles true; rng = rng }
-pack_piece_from numbers options LowDiscrepancy ctx obstacles found piece quota rng = record { placed = pack_low_discrepancy_piece found piece quota ctx obstacles; rng = rng }
-pack_piece_from numbers options Random ctx obstacles found piece quota rng = pack_random_piece numbers piece quota options.max_attempts ctx obstacles rng
+pack_piece_from numbers options Uniform ctx obstacles found piece quota rng =
+    record { placed = pack_uniform_piece found piece quota ctx obstacles false; rng = rng }
+pack_piece_from numbers options Rectangular ctx obstacles found piece quota rng =
+    record { placed = pack_uniform_piece found piece quota ctx obstacles true; rng = rng }
+pack_piece_from numbers options LowDiscrepancy ctx obstacles found piece quota rng =
+    record { placed = pack_low_discrepancy_piece found piece quota ctx obstacles; rng = rng }
+pack_piece_from numbers options Random ctx obstacles found piece quota rng =
+    pack_random_piece numbers piece quota options.max_attempts ctx obstacles rng
 
 -- a piece with quota 0 is passed over
 unfoldable pub pack_quota : Spreading → GlyphOptions → PackCtx → List Rectangle → Deepest → Piece → ℕ → Stream → Thrown
@@ -52,9 +66,9 @@ pack_pieces_from numbers options ctx obstacles (piece ∷ pieces) (found ∷ dee
     thrown.placed ∷ pack_pieces_from numbers options ctx obstacles pieces deepests quotas thrown.rng
 
 -- a zone's pieces, from the stream of its key
-abbrev pub pack_region_from : Spreading → GlyphOptions → PackCtx → List Float → List ℕ → List Piece → List ℕ → List Deepest → List (List Point)
+abbrev pub pack_region_from : Spreading → GlyphOptions → PackCtx → List Rectangle → List ℕ → List Piece → List ℕ → List Deepest → List (List Point)
 pack_region_from numbers options ctx obstacles key pieces quotas deepests =
-    pack_pieces_from numbers options ctx (rectangles obstacles) pieces deepests quotas (seeded options.seed (fnv1a key))
+    pack_pieces_from numbers options ctx obstacles pieces (deepests_of deepests) quotas (seeded options.seed (fnv1a key))
 
 -- ---- what the code asks and answers
 
@@ -76,22 +90,6 @@ laid_prop (n ∷ rings) sizes coords a b = λ i. (
   record { some = le_prop a.0.some b.0.some i; sized = le_prop a.0.sized b.0.sized i; within = le_prop a.0.within b.0.within i },
   laid_prop rings (drop n sizes) (drop (sum (take n sizes) * 2) coords) a.1 b.1 i,
 )
-
--- each piece has a quota and a deepest point, and what is lent has room for the obstacles and for all marks
-pub record Lent (rings quotas : List ℕ) (deepests : List Deepest) (obstacles near second : List Float) (flags : List Bool) (spots : List Float) : Type 0 where
-  pub each_quota : length rings ≤ length quotas
-  pub each_deepest : length rings ≤ length deepests
-  pub room_near : length obstacles ≤ length near
-  pub room_second : sum quotas * 2 ≤ length second
-  pub room_flags : sum quotas ≤ length flags
-  pub room_spots : sum quotas * 2 ≤ length spots
-
--- n marks of one piece: what is lent has room, and the spots are just as many
-pub record Room (n : ℕ) (obstacles near second : List Float) (flags : List Bool) (spots : List Float) : Type 0 where
-  pub room_near : length obstacles ≤ length near
-  pub room_second : n * 2 ≤ length second
-  pub room_flags : n ≤ length flags
-  pub room_spots : length spots ≡ n * 2
 
 -- a trial is strict
 abbrev pub StrictTrial : PackMode → Type 0

@@ -84,7 +84,10 @@ module _ (room : ℕ) (numbers : Spreading) (options : GlyphOptions) (given : Li
         radius = size.radius;
         free_trials = size.free_trials;
         obstacle_trials = size.obstacle_trials;
-        zones = map (λ (zone : Zone). record { zone = zone; spots = pack_region room numbers options (context_at options (pack options) size.radius) obstacles zone }) work;
+        zones = map (λ (zone : Zone). record {
+          zone = zone;
+          spots = pack_region room numbers options (context_at options (pack options) size.radius) obstacles zone;
+        }) work;
       }
 
   -- where some zone is left in

@@ -1,10 +1,11 @@
 // discs.rs, `analytic_r_hi`: the ceiling of an automatic radius, from deepest points that are handed in.
-ghost use Rattle.std.specs.Prelude.{◌≡◌, ℕ, ◌*◌, ◌≤◌, List, length};
+ghost use Rattle.std.specs.Prelude.{◌≡◌, ℕ, ◌≤◌, cond, List};
 ghost use Rattle.discs.specs.Radius.{area_of, lowered, if_positive};
+ghost use Rattle.discs.specs.Pieces.{deepests_of};
 ghost use Rattle.discs.specs.Slices.{pieces_left};
-ghost use Rattle.discs.specs.Floor.{handed_at, work_in, deepest_in, handed_r_hi, EachRow, Stands, start};
-ghost use Rattle.discs.specs.Walk.{lowering};
+ghost use Rattle.discs.specs.Floor.{row_is_left_in, work_in, deepest_in, handed_r_hi, EachRow, Stands, start};
 
+use crate::piece::deepest_from;
 use crate::pieces::Pieces;
 use crate::rows::{Offsets, Row, is_left_in, past_row, pieces_at};
 use deepest::search::{Deepest, deeper};
@@ -24,11 +25,11 @@ fn area_of(pieces: Pieces<'_>) -> f64
 
 // The deepest of a zone's deepest points: the first of equals.
 fn deepest_in(deepest: &[Deepest]) -> Deepest
-    ensures { result ≡ deepest_in deepest.now }
+    ensures { result ≡ deepest_in (deepests_of deepest.now) }
 {
     let mut best = Deepest::Nothing;
     for found in deepest {
-        best = deeper(best, *found);
+        best = deeper(best, deepest_from(*found));
     }
     best
 }
@@ -52,27 +53,14 @@ fn lowered(gap: f64, n: usize, r_hi: f64, area: f64, found: Deepest) -> f64
 }
 
 // The same of a zone, where it is left in.
-fn lowered_by(
-    gap: f64,
-    r_hi: f64,
-    rings: &[usize],
-    sizes: &[usize],
-    coords: &[f64],
-    deepest: &[Deepest],
-    row: Row,
-    at: Offsets,
-) -> f64
-    requires { Stands rings.now sizes.now coords.now deepest.now row at }
-    ensures { (s quotas : List ℕ) → result ≡ lowering gap r_hi (handed_at s rings.now sizes.now coords.now quotas deepest.now row at) }
+fn lowered_by(gap: f64, r_hi: f64, row: Row, pieces: Pieces<'_>, deepest: &[Deepest]) -> f64
+    requires { row.count ≤ 2000 }
+    ensures { result ≡ cond (row_is_left_in row) (lowered gap row.count r_hi (area_of (pieces_left pieces.entry)) (deepest_in (deepests_of deepest.now))) r_hi }
 {
     if !is_left_in(row) {
         return r_hi;
     }
-    let p = at.piece;
-    let q = p + row.pieces;
-    let area = area_of(pieces_at(rings, sizes, coords, row, at));
-    let found = deepest_in(&deepest[p..q]);
-    lowered(gap, row.count, r_hi, area, found)
+    lowered(gap, row.count, r_hi, area_of(pieces), deepest_in(deepest))
 }
 
 // The radius, where it is one.
@@ -97,7 +85,10 @@ pub fn analytic_r_hi(
     let mut r_hi = 1.0 / 0.0;
     let mut at = Offsets::START;
     for row in rows {
-        r_hi = lowered_by(gap, r_hi, rings, sizes, coords, deepest, *row, at);
+        let p = at.piece;
+        let q = p + row.pieces;
+        let pieces = pieces_at(rings, sizes, coords, *row, at);
+        r_hi = lowered_by(gap, r_hi, *row, pieces, &deepest[p..q]);
         at = past_row(rings, sizes, coords, *row, at);
     }
     if_positive(r_hi)

@@ -10,3 +10,4 @@ pub mod radius;
 pub mod region;
 pub mod rows;
 pub mod trial;
+pub mod zone;

@@ -1,10 +1,8 @@
 // discs.rs: `auto_radius`, and the radius that `place_glyphs` packs at.
 ghost use Rattle.std.specs.Prelude.{◌≡◌, ◌≤◌, length};
-ghost use Rattle.glyphs.specs.Rect.{rectangles};
 ghost use Rattle.discs.specs.Radius.{auto_radius};
 ghost use Rattle.discs.specs.PlaceGlyphs.{size_under, size_for};
-ghost use Rattle.discs.specs.Bundles.{zones_work};
-ghost use Rattle.discs.specs.Floor.{handed_feasible};
+ghost use Rattle.discs.specs.Bundles.{fits_in, SameWork};
 ghost use Rattle.discs.specs.Walk.{narrowed};
 
 use crate::bundle::{Packing, Work, Zones};
@@ -54,17 +52,12 @@ fn narrowed(bracket: Bracket, mid: f64, fits: bool) -> Bracket
 }
 
 // The largest radius at which every zone left in holds its marks: one trial, and at most 24 further ones.
-fn auto_radius(
-    r_hi: f64,
-    packing: Packing<'_>,
-    zones: Zones<'_>,
-    near: &mut [f64],
-    work: &mut Work<'_>,
-) -> Search
-    requires { length packing.obstacles.now ≤ length near.old }
-    ensures { result ≡ auto_radius (handed_feasible packing.entry.numbers packing.entry.options (zones_work zones.entry) (rectangles packing.entry.obstacles.now)) r_hi }
+fn auto_radius(r_hi: f64, packing: Packing<'_>, zones: Zones<'_>, work: &mut Work<'_>) -> Search
+    requires { length packing.obstacles.now ≤ length work.old.lent.near.now }
+    ensures search { result ≡ auto_radius (fits_in packing.entry zones.entry packing.entry.obstacles.now) r_hi }
+    ensures same { SameWork work.old work.new }
 {
-    if feasible(r_hi, packing, zones, &mut near[..], work) {
+    if feasible(r_hi, packing, zones, work) {
         return Search {
             best: Some(r_hi),
             trials: 1,
@@ -83,7 +76,7 @@ fn auto_radius(
             };
         }
         let mid = 0.5 * (b.lo + b.hi);
-        let fits = feasible(mid, packing, zones, &mut near[..], work);
+        let fits = feasible(mid, packing, zones, work);
         b = narrowed(b, mid, fits);
     }
     Search {
@@ -93,30 +86,25 @@ fn auto_radius(
 }
 
 // The size under a ceiling: free of obstacles, then with them down to half of that.
-fn size_under(
-    r_hi: f64,
-    packing: Packing<'_>,
-    zones: Zones<'_>,
-    near: &mut [f64],
-    work: &mut Work<'_>,
-) -> Size
-    requires { length packing.obstacles.now ≤ length near.old }
-    ensures { result ≡ size_under (handed_feasible packing.entry.numbers packing.entry.options (zones_work zones.entry)) (rectangles packing.entry.obstacles.now) r_hi }
+fn size_under(r_hi: f64, packing: Packing<'_>, zones: Zones<'_>, work: &mut Work<'_>) -> Size
+    requires { length packing.obstacles.now ≤ length work.old.lent.near.now }
+    ensures size { result ≡ size_under (fits_in packing.entry zones.entry) packing.entry.obstacles.now r_hi }
+    ensures same { SameWork work.old work.new }
 {
     let unwalled = Packing {
         obstacles: &packing.obstacles[..0],
         ..packing
     };
-    let free = auto_radius(r_hi, unwalled, zones, &mut near[..], work);
+    let free = auto_radius(r_hi, unwalled, zones, work);
     let r_free = free.best.unwrap_or(0.25 * r_hi);
-    if packing.obstacles.len() / 4 == 0 {
+    if packing.obstacles.is_empty() {
         return Size {
             radius: r_free,
             free_trials: free.trials,
             obstacle_trials: 0,
         };
     }
-    let walled = auto_radius(r_hi, packing, zones, &mut near[..], work);
+    let walled = auto_radius(r_hi, packing, zones, work);
     Size {
         radius: float::max(walled.best.unwrap_or(0.0), 0.5 * r_free),
         free_trials: free.trials,
@@ -129,11 +117,11 @@ pub fn size_for(
     ceiling: Option<f64>,
     packing: Packing<'_>,
     zones: Zones<'_>,
-    near: &mut [f64],
     work: &mut Work<'_>,
 ) -> Option<Size>
-    requires { length packing.obstacles.now ≤ length near.old }
-    ensures { result ≡ size_for (handed_feasible packing.entry.numbers packing.entry.options (zones_work zones.entry)) (rectangles packing.entry.obstacles.now) packing.entry.options.radius ceiling }
+    requires { length packing.obstacles.now ≤ length work.old.lent.near.now }
+    ensures size { result ≡ size_for (fits_in packing.entry zones.entry) packing.entry.obstacles.now packing.entry.options.radius ceiling }
+    ensures same { SameWork work.old work.new }
 {
     let radius = packing.options.radius;
     if let Radius::Stated(r) = radius {
@@ -147,5 +135,5 @@ pub fn size_for(
         return None;
     }
     let r_hi = ceiling?;
-    Some(size_under(r_hi, packing, zones, &mut near[..], work))
+    Some(size_under(r_hi, packing, zones, work))
 }

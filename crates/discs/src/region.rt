@@ -1,54 +1,41 @@
 // discs.rs, `pack_region`: a zone's marks over its pieces, which lie end to end in slices.
-ghost use Rattle.glyphs.specs.Rect.{rectangles};
-ghost use Rattle.discs.specs.Pieces.{pack_pieces_from, pack_region_from, Lent, StrictTrial, PacksAll};
-ghost use Rattle.discs.specs.Slices.{pieces_left};
+ghost use Rattle.std.specs.Prelude.{◌*◌, ◌≤◌, length};
+ghost use Rattle.regions.specs.Ring.{sum};
+ghost use Rattle.discs.specs.Pieces.{StrictTrial, PacksAll};
+ghost use Rattle.discs.specs.Bundles.{pieces_packed, region_packed, HasRoom, SameLent};
 
-use crate::options::GlyphOptions;
-use crate::piece::pack_piece;
-use crate::pieces::Pieces;
-use deepest::search::Deepest;
+use crate::bundle::{Lent, Packing, Region, Share};
+use crate::piece::{deepest_from, pack_piece};
 use glyphs::hash::fnv1a;
 use glyphs::stream::Stream;
 use lattice::context::PackCtx;
-use relax::Spreading;
 
 // The marks of the pieces, in order: the stream goes on, and the spots of each lie behind those of the one before.
 fn pack_pieces(
-    numbers: Spreading,
-    options: GlyphOptions,
+    packing: Packing<'_>,
     ctx: PackCtx,
-    obstacles: &[f64],
+    region: Region<'_>,
     start: Stream,
-    pieces: Pieces<'_>,
-    quotas: &[usize],
-    deepest: &[Deepest],
-    near: &mut [f64],
-    second: &mut [f64],
-    flags: &mut [bool],
+    lent: &mut Lent<'_>,
     spots: &mut [f64],
 ) -> usize
-    requires { Lent pieces.rings.now quotas.now deepest.now obstacles.now near.old second.old flags.old spots.old × StrictTrial ctx.mode }
-    ensures { PacksAll ctx.mode (pack_pieces_from numbers options ctx (rectangles obstacles.now) (pieces_left pieces.entry) deepest.now quotas.now start) result spots.new spots.old }
+    requires room { HasRoom packing (sum region.quotas.now) lent.old }
+    requires spots { sum region.quotas.now * 2 ≤ length spots.old }
+    requires strict { StrictTrial ctx.mode }
+    ensures placed { PacksAll ctx.mode (pieces_packed packing.entry ctx region.entry start) result spots.new spots.old }
+    ensures same { SameLent lent.old lent.new }
 {
     let mut rng = start;
     let mut placed = 0;
-    for ((piece, quota), found) in pieces.zip(quotas).zip(deepest) {
+    for ((piece, quota), deepest) in region.pieces.zip(region.quotas).zip(region.deepest) {
         let from = placed * 2;
         let to = from + *quota * 2;
-        let taken = pack_piece(
-            numbers,
-            options,
-            ctx,
-            obstacles,
-            *found,
+        let share = Share {
             piece,
-            *quota,
-            rng,
-            &mut near[..],
-            &mut second[..],
-            &mut flags[..],
-            &mut spots[from..to],
-        );
+            quota: *quota,
+            deepest: deepest_from(*deepest),
+        };
+        let taken = pack_piece(packing, ctx, share, rng, lent, &mut spots[from..to]);
         placed += taken.count;
         rng = taken.rng;
     }
@@ -57,25 +44,18 @@ fn pack_pieces(
 
 // Writes the spots of a zone to the front of `spots` and answers how many they are; a trial may only count them.
 pub fn pack_region(
-    numbers: Spreading,
-    options: GlyphOptions,
+    packing: Packing<'_>,
     ctx: PackCtx,
-    obstacles: &[f64],
-    key: &[u8],
-    pieces: Pieces<'_>,
-    quotas: &[usize],
-    deepest: &[Deepest],
-    near: &mut [f64],
-    second: &mut [f64],
-    flags: &mut [bool],
+    region: Region<'_>,
+    lent: &mut Lent<'_>,
     spots: &mut [f64],
 ) -> usize
-    requires { Lent pieces.rings.now quotas.now deepest.now obstacles.now near.old second.old flags.old spots.old × StrictTrial ctx.mode }
-    ensures { PacksAll ctx.mode (pack_region_from numbers options ctx obstacles.now key.now (pieces_left pieces.entry) quotas.now deepest.now) result spots.new spots.old }
+    requires room { HasRoom packing (sum region.quotas.now) lent.old }
+    requires spots { sum region.quotas.now * 2 ≤ length spots.old }
+    requires strict { StrictTrial ctx.mode }
+    ensures placed { PacksAll ctx.mode (region_packed packing.entry ctx region.entry) result spots.new spots.old }
+    ensures same { SameLent lent.old lent.new }
 {
-    let start = Stream::seeded(options.seed, fnv1a(key));
-    pack_pieces(
-        numbers, options, ctx, obstacles, start, pieces, quotas, deepest, near, second, flags,
-        spots,
-    )
+    let start = Stream::seeded(packing.options.seed, fnv1a(region.key));
+    pack_pieces(packing, ctx, region, start, lent, spots)
 }

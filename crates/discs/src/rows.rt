@@ -1,8 +1,8 @@
 // The rows of a job's zones, and the walk over them.
-ghost use Rattle.std.specs.Prelude.{◌≡◌, ◌+◌, ◌*◌, ◌≤◌, length, drop};
-ghost use Rattle.discs.specs.Pieces.{pieces_of, Laid};
+ghost use Rattle.std.specs.Prelude.{◌≡◌, drop};
+ghost use Rattle.discs.specs.Pieces.{pieces_of};
 ghost use Rattle.discs.specs.Slices.{pieces_left};
-ghost use Rattle.discs.specs.Floor.{row_is_left_in, cut, past_row};
+ghost use Rattle.discs.specs.Floor.{row_is_left_in, cut, past_row, Within};
 
 use crate::pieces::{Pieces, total};
 
@@ -55,7 +55,7 @@ pub fn pieces_at<'a>(
     row: Row,
     at: Offsets,
 ) -> Pieces<'a>
-    requires { (at.piece + row.pieces ≤ length rings.now) × (at.ring ≤ length sizes.now) × (at.coord ≤ length coords.now) × Laid (cut at.piece row.pieces rings.now) (drop at.ring sizes.now) (drop at.coord coords.now) }
+    requires { Within rings.now sizes.now coords.now row at }
     ensures pieces { pieces_left result ≡ pieces_of (cut at.piece row.pieces rings.now) (drop at.ring sizes.now) (drop at.coord coords.now) }
     ensures rings { result.rings.now ≡ cut at.piece row.pieces rings.now }
 {
@@ -71,7 +71,7 @@ pub fn pieces_at<'a>(
 
 // Where the zone after one starts.
 pub fn past_row(rings: &[usize], sizes: &[usize], coords: &[f64], row: Row, at: Offsets) -> Offsets
-    requires { (at.piece + row.pieces ≤ length rings.now) × (at.ring ≤ length sizes.now) × (at.coord ≤ length coords.now) × Laid (cut at.piece row.pieces rings.now) (drop at.ring sizes.now) (drop at.coord coords.now) }
+    requires { Within rings.now sizes.now coords.now row at }
     ensures { result ≡ past_row rings.now sizes.now row at }
 {
     let (_, rings) = rings.split_at(at.piece);

@@ -1,15 +1,14 @@
 // discs.rs: the trial of a radius, `feasible` in `auto_radius`.
 ghost use Rattle.std.specs.Prelude.{◌≡◌, ◌≤◌, true, false, length};
-ghost use Rattle.glyphs.specs.Rect.{rectangles};
 ghost use Rattle.discs.specs.Radius.{gap_of, boundary_gap_of, context_at};
-ghost use Rattle.discs.specs.Bundles.{zones_work};
-ghost use Rattle.discs.specs.Floor.{handed_at, handed_feasible, Packable};
+ghost use Rattle.discs.specs.Bundles.{zone_at, fits_in, IsPackable, SameWork};
 ghost use Rattle.discs.specs.Walk.{holding};
 
 use crate::bundle::{Packing, Work, Zones};
 use crate::options::GlyphOptions;
 use crate::region::pack_region;
-use crate::rows::{Offsets, Row, is_left_in, past_row, pieces_at};
+use crate::rows::{Offsets, Row, is_left_in, past_row};
+use crate::zone::region_at;
 use glyphs::mode::PackMode;
 use lattice::context::PackCtx;
 
@@ -45,51 +44,33 @@ fn holds(
     zones: Zones<'_>,
     row: Row,
     at: Offsets,
-    near: &mut [f64],
     work: &mut Work<'_>,
 ) -> bool
-    requires { Packable zones.bytes.now zones.rings.now zones.sizes.now zones.coords.now zones.quotas.now zones.deepest.now row at × (length packing.obstacles.now ≤ length near.old) × (ctx.mode.spread ≡ false) × (ctx.mode.strict_obstacles ≡ true) }
-    ensures { result ≡ holding packing.entry.numbers packing.entry.options ctx (rectangles packing.entry.obstacles.now) (handed_at zones.entry.bytes.now zones.entry.rings.now zones.entry.sizes.now zones.entry.coords.now zones.entry.quotas.now zones.entry.deepest.now row at) }
+    requires packable { IsPackable zones row at }
+    requires near { length packing.obstacles.now ≤ length work.old.lent.near.now }
+    requires trial { ctx.mode.spread ≡ false }
+    requires strict { ctx.mode.strict_obstacles ≡ true }
+    ensures held { result ≡ holding packing.entry.numbers packing.entry.options ctx packing.entry.obstacles.now (zone_at zones.entry row at) }
+    ensures same { SameWork work.old work.new }
 {
     if !is_left_in(row) {
         return true;
     }
-    let key = row.key;
-    let end = key + row.len;
-    let p = at.piece;
-    let q = p + row.pieces;
-    let placed = pack_region(
-        packing.numbers,
-        packing.options,
-        ctx,
-        packing.obstacles,
-        &zones.bytes[key..end],
-        pieces_at(zones.rings, zones.sizes, zones.coords, row, at),
-        &zones.quotas[p..q],
-        &zones.deepest[p..q],
-        near,
-        &mut work.second[..],
-        &mut work.flags[..],
-        &mut work.spots[..],
-    );
+    let region = region_at(zones, row, at);
+    let placed = pack_region(packing, ctx, region, &mut work.lent, &mut work.spots[..]);
     placed == row.count
 }
 
 // Whether every zone left in holds its marks at the radius `r`.
-pub fn feasible(
-    r: f64,
-    packing: Packing<'_>,
-    zones: Zones<'_>,
-    near: &mut [f64],
-    work: &mut Work<'_>,
-) -> bool
-    requires { length packing.obstacles.now ≤ length near.old }
-    ensures { result ≡ handed_feasible packing.entry.numbers packing.entry.options (zones_work zones.entry) (rectangles packing.entry.obstacles.now) r }
+pub fn feasible(r: f64, packing: Packing<'_>, zones: Zones<'_>, work: &mut Work<'_>) -> bool
+    requires { length packing.obstacles.now ≤ length work.old.lent.near.now }
+    ensures fits { result ≡ fits_in packing.entry zones.entry packing.entry.obstacles.now r }
+    ensures same { SameWork work.old work.new }
 {
     let ctx = context_at(packing.options, PackMode::PROBE, r);
     let mut at = Offsets::START;
     for row in zones.rows {
-        if !holds(packing, ctx, zones, *row, at, &mut near[..], work) {
+        if !holds(packing, ctx, zones, *row, at, work) {
             return false;
         }
         at = past_row(zones.rings, zones.sizes, zones.coords, *row, at);

@@ -1,4 +1,5 @@
-// `f64`'s abs, min, max and clamp, and a change of sign.
+// `f64`'s abs, min, max and clamp, and a change of sign. The kit's `min` and `max` leave open which of 0 and -0 they give,
+// and its `clamp` asks for bounds in order.
 ghost use Rattle.std.specs.Prelude.{◌≡◌, ◌^◌, if◌then◌else◌};
 ghost use Rattle.std.specs.Float.Ieee.{neg};
 ghost use Rattle.float.specs.Order.{abs, min, max, clamp};

@@ -10,7 +10,7 @@ use crate::wide::{high_mul, wrapping_mul};
 
 // The whole number nearest to √(m * 2^52), digit by digit. With y for m * 2^52, at each turn q is the root's
 // digits down to the bit `bit`, and what is left of y is y - q * q, kept as `rest` * `bit`. A turn tries the
-// next bit: (q + bit)^2 is q^2 + (2q + bit) * bit.
+// next bit: (q + bit)^2 is q^2 + (2q + bit) * bit. `bit` is halved, so no `for` counts it.
 fn digit_root(m: u64) -> u64
     requires low { 2 ^ 52 ≤ m }
     requires high { m < 2 ^ 54 }

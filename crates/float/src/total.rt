@@ -1,4 +1,4 @@
-// `f64::total_cmp`, by keys.
+// `f64::total_cmp`, by keys. The kit's takes no NaN.
 ghost use Rattle.std.specs.Prelude.{◌≡◌};
 ghost use Rattle.float.specs.Total.{total_key, total_less};
 

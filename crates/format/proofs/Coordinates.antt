@@ -44,7 +44,10 @@ div_neg f (fin s m e) n d = go s (eqb n 0) (eqb m 0)
     q : ℕ
     q = n * up d * down e
 
-    go : (s a b : Bool) → cond a (cond b nan (inf (unlike (not s) false))) (round f (unlike (not s) false) p q) ≡ neg (cond a (cond b nan (inf (unlike s false))) (round f (unlike s false) p q))
+    go :
+        (s a b : Bool)
+        → cond a (cond b nan (inf (unlike (not s) false))) (round f (unlike (not s) false) p q)
+        ≡ neg (cond a (cond b nan (inf (unlike s false))) (round f (unlike s false) p q))
     go true true true = refl
     go false true true = refl
     go true true false = refl
@@ -65,7 +68,13 @@ of_int_neg k = round_neg binary64 (suc k) 1
 
 share_neg : (k : ℕ) → div binary64 (of_int binary64 (negsuc k)) kilo ≡ neg (share (suc k))
 unfolding share kilo
-share_neg k = rw of_int_neg (ap (div binary64 (neg (of_int binary64 (pos (suc k))))) kilo_is ∙ div_neg binary64 _ 1 (pos 10) ∙ ap (λ (x : Float). neg (div binary64 (of_int binary64 (pos (suc k))) x)) (sym kilo_is))
+share_neg k =
+    let n = of_int binary64 (pos (suc k)) in
+    rw of_int_neg (
+    ap (div binary64 (neg n)) kilo_is
+    ∙ div_neg binary64 n 1 (pos 10)
+    ∙ ap (λ (x : Float). neg (div binary64 n x)) (sym kilo_is)
+    )
 
 pub coord_signed : (u : ℕ) → u < 2 ^ 32 → of_int binary64 (cast_signed w32 u) /ᶠ literal 0x4090_0000_0000_0000 ≡ coord_of u
 unfolding coord_of share kilo

@@ -7,7 +7,7 @@ use Rattle.std.specs.Float.Ieee.{neg, of_int, of_bits, unlike}
 use Rattle.float.specs.Ops.{literal}
 use Rattle.rounding.specs.Signed.{Exact, signed, nat, opp, ◌≈◌}
 use Rattle.rounding.proofs.Whole.{of_int_exact}
-use Rattle.rounding.specs.Value.{U-is, E, sgn, val, neg_num, neg_mag, neg_val}
+use Rattle.rounding.specs.Value.{U, U-is, E, sgn, val, neg_num, neg_mag, neg_val}
 use Rattle.rounding.specs.Bounds.{Sized}
 use Rattle.rounding.proofs.Errors.{div_of_finite}
 use Rattle.rounding.specs.Exactness.{Multiple}
@@ -103,5 +103,8 @@ pub coordinate_sized : {x : Float} → Coordinate x → Sized x 1024
 coordinate_sized {x} c =
     record {
       num = c.multiple.num;
-      size = le_trans (le_of_eq c.multiple.is) (le_trans (mul-le-mul_right (2 ^ 1064) c.few) (le_of_eq (mul_assoc 1024 1024 (2 ^ 1064) ∙ ap (λ (z : ℕ). 1024 * z) (sym (pow-add 2 10 1064) ∙ sym U-is))));
+      size = le_trans (le_of_eq c.multiple.is) (le_trans (mul-le-mul_right (2 ^ 1064) c.few) (le_of_eq kilo_units));
     }
+  where
+    kilo_units : 1048576 * 2 ^ 1064 ≡ 1024 * U
+    kilo_units = mul_assoc 1024 1024 (2 ^ 1064) ∙ ap (λ (z : ℕ). 1024 * z) (sym (pow-add 2 10 1064) ∙ sym U-is)

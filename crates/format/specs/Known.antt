@@ -32,7 +32,9 @@ coord_known : (s : List ℕ) (number : ℕ) → 1 ≤ number → (at : ℕ) → 
 unfolding coord_in coord_at
 coord_known s number h at e = coordinate (u32 s at) (passed number (in_range (u32 s at)) h (both _ _ e).1)
 
-pub coords_known : (s : List ℕ) (number n at : ℕ) → 1 ≤ number → faults (coord_in s number) next_coord n at ≡ 0 → All Coordinate (each (coord_at s) next_coord n at)
+pub coords_known :
+    (s : List ℕ) (number n at : ℕ) → 1 ≤ number → faults (coord_in s number) next_coord n at ≡ 0
+    → All Coordinate (each (coord_at s) next_coord n at)
 coords_known s number n at h e = all_each Coordinate (coord_in s number) next_coord (coord_at s) (coord_known s number h) n at e
 
 -- ---- rings and pieces

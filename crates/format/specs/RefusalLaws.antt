@@ -1,7 +1,7 @@
 -- Laws of refusals: which row answers where calls follow one another by `?`.
 -- Rests on no number of a refusal being 0, and on the laws of faults.
 use Prim.Native.Nat.{ℕ, zero, suc, ◌-◌, ◌<◌}
-use Rattle.std.specs.Prelude.{◌≡◌, Result, IsErrAnd}
+use Rattle.std.specs.Prelude.{◌≡◌, Result, Ok, Err, IfOk, IsErrAnd}
 use Rattle.std.proofs.Math.Path.{refl, sym}
 use Rattle.std.proofs.Common.{◌∙◌}
 use Rattle.std.proofs.lemmas.Result.{err_from_is_err_and}
@@ -44,6 +44,11 @@ handed refusal r f h =
 
 pub fails : {A : Type 0} (refusal : Refusal) (r : Result A Refusal) (x y : ℕ) → number_of refusal ≡ x → IsErrAnd r (λ e. e ≡ refusal) → fault_of r ≡ x or_else y
 fails refusal r x y f h = handed refusal r f h ∙ sym (first x y (λ e. numbered refusal (f ∙ e)))
+
+-- a call that found no fault gave the one value that it may
+pub given : {A : Type 0} {v : A} (r : Result A Refusal) → fault_of r ≡ 0 → IfOk r (λ x. x ≡ v) → r ≡ Ok v
+given (Ok x) f h = rw h
+given (Err refusal) f h = absurd (numbered refusal f)
 
 -- a call answered a value, so its row has no fault
 pub passes : {z : ℕ} (x y : ℕ) → 0 ≡ x → z ≡ y → z ≡ x or_else y

@@ -3,7 +3,7 @@
 use Prim.Native.Nat.{ℕ, zero, suc, ◌+◌, ◌-◌, ◌<◌, ◌≤◌}
 use Rattle.std.specs.Prelude.{◌≡◌, Bool, true, false, length, get_or, drop, set, leb, eqb}
 use Rattle.std.proofs.Math.Path.{refl, sym}
-use Rattle.std.proofs.Common.{◌∙◌, zero-add, add-one, drop-drop, rules, le-leb, eq-eqb, ne_eqb}
+use Rattle.std.proofs.Common.{◌∙◌, zero-add, add-one, drop-drop, rules, le-leb, eq-eqb, ne_eqb, length-append}
 use mathlib.Core.List.{List, [], ◌∷◌, ◌++◌, append_assoc, append-nil, map, flatten, flat_map}
 use native.Mathlib.Omega.{arith}
 use Rattle.std.proofs.lemmas.List.Edits.{sets, sets-eq}
@@ -122,7 +122,9 @@ module _ {S : Type 0} (next : S → S) where
     unfolding faults
     faults_stop n i at m h e = rw (rest n i m) at e ∙ sym (row_fault (fault at) (fault at) _ refl h refl)
 
-    pub faults_turn : {r : ℕ} {to : S} (n i : ℕ) (at : S) → i < n → 0 ≡ fault at → to ≡ next at → r ≡ faults fault next (n - i) at → r ≡ faults fault next (n - (i + 1)) to
+    pub faults_turn :
+        {r : ℕ} {to : S} (n i : ℕ) (at : S) → i < n → 0 ≡ fault at → to ≡ next at
+        → r ≡ faults fault next (n - i) at → r ≡ faults fault next (n - (i + 1)) to
     unfolding faults
     faults_turn n i at m h t e = rw (rest n i m) at e ∙ rw t (sym (row_clear (fault at) (fault at) _ refl (sym h) refl))
 
@@ -151,6 +153,21 @@ module _ {S : Type 0} (next : S → S) where
     unfolding each
     each_turn view l n i at m t o e = rw (rest n i m) at e ∙ rw (t, o, append_assoc)
 
+    -- one more store a turn
+    pub store_turn :
+        (view : S → A) {x out' : List A} {k' : ℕ} {to : S} (out : List A) (k n : ℕ) (at : S) → 0 < n → to ≡ next at → k' ≡ k + 1 → out' ≡ set out k (view at)
+        → x ≡ sets out k (each view next n at) → x ≡ sets out' k' (each view next (n - 1) to)
+    unfolding each
+    store_turn view out k zero at m t j o e = absurd (omega arith)
+    store_turn view out k (suc n) at m t j o e =
+        let l : suc n - 1 ≡ n = omega arith in
+        e ∙ rw (l, t, j, o, add-one)
+
+    pub store_end : (view : S → A) {x : List A} (out : List A) (k n : ℕ) (at : S) → n ≤ 0 → x ≡ sets out k (each view next n at) → out ≡ x
+    unfolding each
+    store_end view out k zero at h e = sym e
+    store_end view out k (suc n) at h e = absurd (omega arith)
+
     pub each_end : (view : S → A) {x : List A} (l : List A) (n i : ℕ) (at : S) → n ≤ i → x ≡ l ++ each view next (n - i) at → l ≡ x
     unfolding each
     each_end view l n i at h e = sym (rw (none n i h) at e ∙ append-nil l)
@@ -166,9 +183,24 @@ module _ {S : Type 0} (next : S → S) where
     unfolding flat
     flat_end view l n i at h e = sym (rw (none n i h) at e ∙ append-nil l)
 
+    pub length_turn :
+        (view : S → List A) {r k' : ℕ} {to : S} (k n : ℕ) (at : S) → 0 < n → to ≡ next at → k' ≡ k + length (view at)
+        → r ≡ k + length (flat view next n at) → r ≡ k' + length (flat view next (n - 1) to)
+    unfolding flat
+    length_turn view k zero at m t j e = absurd (omega arith)
+    length_turn view k (suc n) at m t j e =
+        let l : suc n - 1 ≡ n = omega arith in
+        rw (l, t) (omega (arith, length-append (view at) (flat view next n (next at))))
+
+    pub length_end : (view : S → List A) {r : ℕ} (k n : ℕ) (at : S) → n ≤ 0 → r ≡ k + length (flat view next n at) → k ≡ r
+    unfolding flat
+    length_end view k zero at h e = omega arith
+    length_end view k (suc n) at h e = absurd (omega arith)
+
     -- some stores a turn
     pub put_turn :
-        (view : S → List A) {x out' : List A} {k' : ℕ} {to : S} (out : List A) (k n i : ℕ) (at : S) → i < n → to ≡ next at → k' ≡ k + length (view at) → out' ≡ sets out k (view at)
+        (view : S → List A) {x out' : List A} {k' : ℕ} {to : S} (out : List A) (k n i : ℕ) (at : S)
+        → i < n → to ≡ next at → k' ≡ k + length (view at) → out' ≡ sets out k (view at)
         → x ≡ sets out k (flat view next (n - i) at) → x ≡ sets out' k' (flat view next (n - (i + 1)) to)
     unfolding flat
     put_turn view out k n i at m t j o e = rw (rest n i m) at e ∙ rw (t, j, o) (sets_append out k (view at) (flat view next (n - (i + 1)) (next at)))
@@ -176,6 +208,22 @@ module _ {S : Type 0} (next : S → S) where
     pub put_end : (view : S → List A) {x : List A} (out : List A) (k n i : ℕ) (at : S) → n ≤ i → x ≡ sets out k (flat view next (n - i) at) → out ≡ x
     unfolding flat
     put_end view out k n i at h e = sym (rw (none n i h) at e)
+
+-- ---- some of them, and those after them
+
+pub or_else_assoc : (x y z : ℕ) → (x or_else y) or_else z ≡ x or_else y or_else z
+unfolding ◌or_else◌
+or_else_assoc zero y z = refl
+or_else_assoc (suc x) y z = refl
+
+pub faults_more :
+    {S : Type 0} (fault : S → ℕ) (next : S → S) (m n : ℕ) (at : S)
+    → faults fault next (m + n) at ≡ faults fault next m at or_else faults fault next n (past next m at)
+unfolding faults past ◌or_else◌
+faults_more fault next zero n at = rw zero-add
+faults_more fault next (suc m) n at =
+    let e : suc m + n ≡ suc (m + n) = omega arith in
+    rw (e, faults_more fault next m n (next at)) (sym (or_else_assoc (fault at) _ _))
 
 -- ---- one of them
 

@@ -2,7 +2,7 @@
 ghost use Rattle.std.specs.Prelude.{◌≡◌, ◌^◌, ◌<◌, ◌≤◌, length};
 ghost use Rattle.format.specs.Numbers.{uint, share};
 
-// The number that the bytes stand for.
+// The number that the bytes stand for: at most eight, for which the library has no one conversion.
 pub fn uint(bytes: &[u8]) -> u64
     requires { length bytes.now ≤ 8 }
     ensures { (result ≡ uint (length bytes.now) bytes.now 0) × (result < 256 ^ length bytes.now) }

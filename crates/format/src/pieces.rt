@@ -1,28 +1,31 @@
 // The rings and pieces of a job, laid out flat.
-ghost use Rattle.std.specs.Prelude.{◌≡◌, ◌+◌, ◌*◌, ◌<◌, ◌≤◌, [], ◌∷◌, length, OnOk};
+ghost use Rattle.std.specs.Prelude.{◌≡◌, ◌+◌, ◌*◌, ◌<◌, ◌≤◌, [], length, OnOk};
 ghost use Rattle.format.specs.Refusals.{fault_of};
-ghost use Rattle.format.specs.Rows.{faults, past, each, flat};
-ghost use Rattle.format.specs.Numbers.{u8, u16};
-ghost use Rattle.format.specs.Pieces.{ring_fault, ring_end, ring, ring_sizes, piece_fault, piece_end, piece_coords};
-ghost use Rattle.format.specs.Steps.{Room, PiecesPut};
+ghost use Rattle.format.specs.Rows.{faults};
+ghost use Rattle.format.specs.Pieces.{ring_fault, piece_fault, piece_end};
+ghost use Rattle.format.specs.Steps.{Room, RingPut, PiecePut, RunPut};
 
 use crate::reader::Reader;
 use crate::refusal::Refusal;
 use arrayvec::ArrayVec;
 
 // The coordinates of all rings, end to end; the number of vertices of each ring; the number of rings of each piece.
-// A job of 65,536 bytes has at most so many: each coordinate takes four, and there are at most 64 zones of 16 pieces
-// of 9 rings.
 #[derive(Drop)]
-pub struct Pieces {
-    pub coords: ArrayVec<f64, 16384>,
-    pub sizes: ArrayVec<usize, 9216>,
-    pub rings: ArrayVec<usize, 1024>,
+pub struct Pieces<const COORDS: usize, const RINGS: usize, const PIECES: usize> {
+    pub coords: ArrayVec<f64, COORDS>,
+    pub sizes: ArrayVec<usize, RINGS>,
+    pub rings: ArrayVec<usize, PIECES>,
 }
 
-impl Pieces {
-    pub fn new() -> Pieces
-        ensures { (result.coords.items ≡ []) × (result.sizes.items ≡ []) × (result.rings.items ≡ []) }
+// A job of 65,536 bytes has at most so many: each coordinate takes four, and there are at most 64 zones of 16 pieces
+// of 9 rings.
+pub type JobPieces = Pieces<16384, 9216, 1024>;
+
+impl<const COORDS: usize, const RINGS: usize, const PIECES: usize> Pieces<COORDS, RINGS, PIECES> {
+    pub fn new() -> Self
+        ensures coords { result.coords.items ≡ [] }
+        ensures sizes { result.sizes.items ≡ [] }
+        ensures rings { result.rings.items ≡ [] }
     {
         Pieces {
             coords: ArrayVec::new(),
@@ -32,9 +35,10 @@ impl Pieces {
     }
 
     fn read_ring(&mut self, job: &mut Reader) -> Result<(), Refusal>
-        requires { Room job.old.bytes.now job.old.at self.old × (length self.old.sizes.items < 9216) }
+        requires coord_room { Room job.old.bytes.now job.old.at self.old }
+        requires ring_room { length self.old.sizes.items < RINGS }
         ensures fault { fault_of result ≡ ring_fault job.old.bytes.now job.old.at }
-        ensures read { OnOk result (PiecesPut (ring_end job.old.bytes.now job.old.at) (ring job.old.bytes.now job.old.at) (u16 job.old.bytes.now job.old.at ∷ []) [] self.old job.new.at self.new) }
+        ensures read { OnOk result (RingPut job.old.bytes.now job.old.at self.old job.new.at self.new) }
         ensures bytes { job.new.bytes ≡ job.old.bytes }
     {
         let vertices = job.item(2, 0, 256, Refusal::Count)? as usize;
@@ -44,9 +48,11 @@ impl Pieces {
     }
 
     fn read_piece(&mut self, job: &mut Reader) -> Result<(), Refusal>
-        requires { Room job.old.bytes.now job.old.at self.old × (length self.old.sizes.items + 9 ≤ 9216) × (length self.old.rings.items < 1024) }
+        requires coord_room { Room job.old.bytes.now job.old.at self.old }
+        requires ring_room { length self.old.sizes.items + 9 ≤ RINGS }
+        requires piece_room { length self.old.rings.items < PIECES }
         ensures fault { fault_of result ≡ piece_fault job.old.bytes.now job.old.at }
-        ensures read { OnOk result (PiecesPut (piece_end job.old.bytes.now job.old.at) (piece_coords job.old.bytes.now job.old.at) (ring_sizes job.old.bytes.now job.old.at) (u8 job.old.bytes.now job.old.at ∷ []) self.old job.new.at self.new) }
+        ensures read { OnOk result (PiecePut job.old.bytes.now job.old.at self.old job.new.at self.new) }
         ensures bytes { job.new.bytes ≡ job.old.bytes }
     {
         let rings = job.item(1, 1, 9, Refusal::Count)? as usize;
@@ -59,9 +65,11 @@ impl Pieces {
 
     // The next `n` pieces.
     pub fn read_pieces(&mut self, job: &mut Reader, n: usize) -> Result<(), Refusal>
-        requires { Room job.old.bytes.now job.old.at self.old × (length self.old.sizes.items + 9 * n ≤ 9216) × (length self.old.rings.items + n ≤ 1024) }
+        requires coord_room { Room job.old.bytes.now job.old.at self.old }
+        requires ring_room { length self.old.sizes.items + 9 * n ≤ RINGS }
+        requires piece_room { length self.old.rings.items + n ≤ PIECES }
         ensures fault { fault_of result ≡ faults (piece_fault job.old.bytes.now) (piece_end job.old.bytes.now) n job.old.at }
-        ensures read { OnOk result (PiecesPut (past (piece_end job.old.bytes.now) n job.old.at) (flat (piece_coords job.old.bytes.now) (piece_end job.old.bytes.now) n job.old.at) (flat (ring_sizes job.old.bytes.now) (piece_end job.old.bytes.now) n job.old.at) (each (u8 job.old.bytes.now) (piece_end job.old.bytes.now) n job.old.at) self.old job.new.at self.new) }
+        ensures read { OnOk result (RunPut job.old.bytes.now n job.old.at self.old job.new.at self.new) }
         ensures bytes { job.new.bytes ≡ job.old.bytes }
     {
         for _i in 0..n {

@@ -23,6 +23,7 @@ pub enum Refusal {
     Ceiling = 16,
 }
 
+// The one place that gives a refusal its number.
 impl From<Refusal> for u8 {
     ghost from_gives = { λ refusal number. number ≡ number_of refusal };
 

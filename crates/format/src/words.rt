@@ -3,7 +3,7 @@ ghost use Rattle.std.specs.Prelude.{◌≡◌, ◌+◌, ◌<◌, ◌≤◌, leng
 ghost use Rattle.std.proofs.lemmas.List.Edits.{sets};
 ghost use Rattle.format.specs.Numbers.{bytes, float_bytes};
 
-// Puts the `n` low bytes of `v` into `out` at `at`.
+// Puts the `n` low bytes of `v` into `out` at `at`: at most eight, for which the library has no one conversion.
 pub fn put_uint(out: &mut [u8], at: usize, n: usize, v: u64)
     requires { at + n ≤ length out.old }
     ensures { out.new ≡ sets out.old at (bytes n v) }

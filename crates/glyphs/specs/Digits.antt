@@ -50,12 +50,6 @@ digit_left j rest h l = go (64 - j) refl l
     go zero e k = absurd (omega (arith, h, k))
     go (suc m) e k = omega arith
 
-pub none_left : (j rest : ℕ) → 64 ≤ j → Left j rest → rest ≡ 0
-none_left j rest h l =
-    let e : 64 - j ≡ 0 = omega arith in
-    let none : rest < 2 ^ 0 = subst (λ (z : ℕ). rest < 2 ^ z) e l in
-    omega arith
-
 pub digit_off : (base j rest : ℕ) → 2 ≤ base → j < 64 → Left j rest → Left (j + 1) (rest / base)
 digit_off base j rest h k l =
     let m = 64 - (j + 1) in

@@ -1,7 +1,9 @@
 -- glyphs.rs: `dist_to_rect`, `clear_of_obstacles`, `sanitize_obstacles` and `obstacles_near`.
--- A list of obstacles is a list of four floats each: centre x, centre y, width, height.
-use Rattle.std.specs.Prelude.{◌≡◌, ℕ, zero, suc, ◌+◌, ◌-◌, ◌*◌, ◌/◌, ◌<◌, ◌≤◌, Bool, true, cond, ◌&&◌, List, [], ◌∷◌, length, slice_index_or, refl, Option, Some, None, Float}
-use Rattle.std.proofs.Common.{arith}
+-- Obstacles also lie in a list of floats, four each: centre x, centre y, width, height.
+use Rattle.std.specs.Prelude.{◌≡◌, ℕ, zero, suc, ◌+◌, ◌-◌, ◌*◌, ◌/◌, ◌<◌, ◌≤◌, Bool, true, false, cond, ◌&&◌, List, [], ◌∷◌, ◌++◌, length, slice_index_or, get_or, drop, refl, Option, Some, None, Float}
+use Rattle.std.proofs.Common.{append_assoc, append-nil, arith}
+use Rattle.std.proofs.lemmas.List.{drop_more}
+use Rattle.std.proofs.Math.ListN.{drop_of_length-le}
 use Rattle.std.specs.Float.Ieee
 use Rattle.std.specs.Float.{nan}
 use Rattle.float.specs.Ops.{◌+ᶠ◌, ◌-ᶠ◌, ◌*ᶠ◌, ◌/ᶠ◌, ◌<ᶠ◌, ◌>ᶠ◌, ◌≤ᶠ◌, ◌≥ᶠ◌, 0ᶠ, 1ᶠ, ½ᶠ, ∞}
@@ -70,6 +72,35 @@ obstacles_near None obstacles clearance = []
 obstacles_near (Some bounds) obstacles clearance = filter (λ rect. near rect clearance bounds.min_x bounds.max_x bounds.min_y bounds.max_y) obstacles
 
 -- ---- laws
+
+-- an obstacle that passes stands behind those that passed before it
+pub filter_turn :
+    (f : Rectangle → Bool) (xs : List Rectangle) (rect : Rectangle) (rects : List Rectangle)
+    → xs ++ filter f (rect ∷ rects) ≡ (xs ++ cond (f rect) (rect ∷ []) []) ++ filter f rects
+unfolding filter
+filter_turn f xs rect rects = go (f rect)
+  where
+    go : (b : Bool) → xs ++ cond b (rect ∷ filter f rects) (filter f rects) ≡ (xs ++ cond b (rect ∷ []) []) ++ filter f rects
+    go true = rw append_assoc refl
+    go false = rw append-nil refl
+
+-- whether what is left of some obstacles is cleared, where one more is not, and where it is
+module _ (px py clearance : Float) (obstacles : List Rectangle) (i : ℕ) where
+  pub clear_stops :
+      (d : Rectangle) → i < length obstacles → dist_to_rect px py (get_or obstacles i d) ≥ᶠ clearance ≡ false
+      → clear_of_obstacles px py (drop i obstacles) clearance ≡ false
+  unfolding clear_of_obstacles
+  clear_stops d h e = rw (drop_more obstacles i d h, e)
+
+  pub clear_goes_on :
+      (d : Rectangle) → i < length obstacles → dist_to_rect px py (get_or obstacles i d) ≥ᶠ clearance ≡ true
+      → clear_of_obstacles px py (drop i obstacles) clearance ≡ clear_of_obstacles px py (drop (i + 1) obstacles) clearance
+  unfolding clear_of_obstacles
+  clear_goes_on d h e = rw (drop_more obstacles i d h, e)
+
+  pub clear_ends : length obstacles ≤ i → clear_of_obstacles px py (drop i obstacles) clearance ≡ true
+  unfolding clear_of_obstacles
+  clear_ends h = rw drop_of_length-le
 
 pub rects_step :
     (l : List Float) (k n : ℕ) → k < n → rects_from l k (n - k) ≡ rect_at l k ∷ rects_from l (k + 1) (n - (k + 1))

@@ -12,6 +12,7 @@ pub fn radical_inverse(index: u64, base: u64) -> f64
     let mut value = 0.0;
     let mut weight = 1.0 / b;
     let mut rest = index;
+    // As the source divides: how many digits there are is known when none is left.
     while rest > 0 {
         value = value + ((rest % base) as f64) * weight;
         rest = rest / base;
@@ -35,7 +36,8 @@ pub fn put_weights(base: u64, weights: &mut [f64])
     }
 }
 
-// `radical_inverse`, without a division of floats: an index has at most 64 digits.
+// `radical_inverse`, without a division of floats: an index has at most 64 digits. Their places are counted by hand: a `for`
+// over the weights also tests at each digit whether they end, and low discrepancy is slower by it.
 pub fn inverse_by(weights: &[f64], index: u64, base: u64) -> f64
     requires base_low { 2 ≤ base }
     requires base_high { base ≤ 65536 }
@@ -45,12 +47,11 @@ pub fn inverse_by(weights: &[f64], index: u64, base: u64) -> f64
 {
     let mut value = 0.0;
     let mut rest = index;
-    for weight in weights {
-        if rest == 0 {
-            break;
-        }
-        value = value + ((rest % base) as f64) * *weight;
+    let mut j = 0;
+    while rest > 0 {
+        value = value + ((rest % base) as f64) * weights[j];
         rest = rest / base;
+        j += 1;
     }
     value
 }

@@ -1,4 +1,4 @@
-// A ring is a slice of its coordinates, x and y in turn.
+// A ring is a slice of its coordinates, x and y in turn, as a job has them: these are the source's `v[i].x()` and `.y()`.
 ghost use Rattle.std.specs.Prelude.{◌≡◌, ◌/◌, ◌<◌, length};
 ghost use Rattle.glyphs.specs.Points.{x_at, y_at};
 

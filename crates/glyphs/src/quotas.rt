@@ -50,7 +50,7 @@ fn remainder_key(n: u64, total: f64, w: f64) -> u64
     float::total_key(s - float::floor(s))
 }
 
-// Whether index j comes before index i.
+// Whether index j comes before index i. The source's order has a place for NaN, so keys are compared and not floats.
 fn before(n: u64, total: f64, weights: &[f64], j: usize, i: usize) -> bool
     requires exact { n ≤ 2 ^ 53 }
     requires inside_j { j < length weights.now }

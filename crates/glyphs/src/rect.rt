@@ -1,38 +1,22 @@
-// point.rs and rectangle.rs, as data, and glyphs.rs: obstacles. A list of obstacles is a slice of four floats
-// each: centre x, centre y, width, height.
-ghost use Rattle.std.specs.Prelude.{◌≡◌, ◌/◌, ◌<◌, length};
-ghost use Rattle.glyphs.specs.Rect.{rect_at, rectangles, is_finite, dist_to_rect, clear_of_obstacles, sane, near};
+// point.rs and rectangle.rs, as data, and glyphs.rs: obstacles.
+ghost use Rattle.std.specs.Prelude.{◌≡◌};
+ghost use Rattle.glyphs.specs.Rect.{is_finite, dist_to_rect, clear_of_obstacles, sane, near};
 
 use crate::bounds::Extents;
 
-#[derive(Clone, Copy)]
+#[derive(Clone, Copy, Default)]
+#[repr(C)]
 pub struct Point {
     pub x: f64,
     pub y: f64,
 }
 
-#[derive(Clone, Copy)]
+#[derive(Clone, Copy, Default)]
+#[repr(C)]
 pub struct Rectangle {
     pub center: Point,
     pub width: f64,
     pub height: f64,
-}
-
-// The obstacle `k` of a list.
-pub fn obstacle(obstacles: &[f64], k: usize) -> Rectangle
-    requires { k < length obstacles.now / 4 }
-    ensures { result ≡ rect_at obstacles.now k }
-{
-    let a = k * 4;
-    let center = Point {
-        x: obstacles[a],
-        y: obstacles[a + 1],
-    };
-    Rectangle {
-        center,
-        width: obstacles[a + 2],
-        height: obstacles[a + 3],
-    }
 }
 
 // The distance from (px, py) to the nearest point of `rect`; 0 where the point is inside it.
@@ -45,16 +29,13 @@ pub fn dist_to_rect(px: f64, py: f64, rect: Rectangle) -> f64
 }
 
 // Whether (px, py) keeps `clearance` to every obstacle.
-pub fn clear_of_obstacles(px: f64, py: f64, obstacles: &[f64], clearance: f64) -> bool
-    ensures { result ≡ clear_of_obstacles px py (rectangles obstacles.now) clearance }
+pub fn clear_of_obstacles(px: f64, py: f64, obstacles: &[Rectangle], clearance: f64) -> bool
+    ensures { result ≡ clear_of_obstacles px py obstacles.now clearance }
 {
-    let n = obstacles.len() / 4;
-    let mut k = 0;
-    while k < n {
-        if !(dist_to_rect(px, py, obstacle(obstacles, k)) >= clearance) {
+    for rect in obstacles {
+        if !(dist_to_rect(px, py, *rect) >= clearance) {
             return false;
         }
-        k += 1;
     }
     true
 }

@@ -1,4 +1,4 @@
-// Marks as a slice of their coordinates, x and y in turn.
+// Marks as a slice of their coordinates, x and y in turn, as C lends them.
 ghost use Rattle.std.specs.Prelude.{◌≡◌, ◌+◌, ◌/◌, ◌<◌, ◌≤◌, length, take, drop};
 ghost use Rattle.laws.specs.Any.{all};
 ghost use Rattle.glyphs.specs.Spots.{spot_at, put_spot, spots_of, apart, near_count};

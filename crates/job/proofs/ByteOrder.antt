@@ -16,7 +16,8 @@ gt_is (a ∷ x) (b ∷ y) = go (ltb a b) (ltb b a) (eqb a b) (gt_is x y) refl re
   where
     go :
         (p q r : Bool) → partial_gt (slice_partial_cmp (λ a b. Some (nat_cmp a b))) x y ≡ above x y → ltb a b ≡ p → ltb b a ≡ q → eqb a b ≡ r
-        → is_some_and is_gt (partial_ordering_then (Some (cond p Less (cond r Equal Greater))) (slice_partial_cmp (λ a b. Some (nat_cmp a b)) x y)) ≡ (cond q true (cond p false (above x y)))
+        → is_some_and is_gt (partial_ordering_then (Some (cond p Less (cond r Equal Greater))) (slice_partial_cmp (λ a b. Some (nat_cmp a b)) x y))
+        ≡ (cond q true (cond p false (above x y)))
     go true true r i h g f = absurd (omega (arith, ltb-true a b h, ltb-true b a g))
     go true false r i h g f = refl
     go false true true i h g f = absurd (omega (arith, ltb-true b a g, eqb-true a b f))

@@ -2,7 +2,7 @@
 -- Rests on the laws of the job's flat lists.
 use Prim.Native.Nat.{ℕ, zero, suc, ◌+◌, ◌≤◌}
 use mathlib.Core.Path.{◌≡◌, refl, ◌∙◌}
-use mathlib.Core.List.{List, []}
+use mathlib.Core.List.{List}
 use native.Mathlib.Omega.{arith}
 use lib.ListN.{length, length-append}
 use Rattle.format.specs.Rows.{flat}
@@ -22,17 +22,17 @@ length_rows s zero at = refl
 length_rows s (suc n) at = simp length-append (omega (arith, length_row s at, length_rows s n (zone_end s at)))
 
 pub job_put :
-    (s : List ℕ) (pieces : Pieces) (rows : List Row) (to : ℕ) (pieces' : Pieces) (rows' : List Row) → u16 s (zones_at s) ≤ 64
-    → pieces.coords.items ≡ [] → pieces.sizes.items ≡ [] → pieces.rings.items ≡ [] → 64 ≤ length rows
-    → ZonesPut s (u16 s (zones_at s)) (zones_at s + 2) pieces rows to pieces' rows' → JobPut s (u16 s (zones_at s)) pieces' rows rows'
+    {C R P : ℕ} (s : List ℕ) (pieces : Pieces C R P) (rows : List Row) (to : ℕ) (pieces' : Pieces C R P) (rows' : List Row)
+    → u16 s (zones_at s) ≤ 64 → 64 ≤ length rows → ZonesPut s (u16 s (zones_at s)) (zones_at s + 2) pieces rows to pieces' rows'
+    → JobPut s (u16 s (zones_at s)) pieces pieces' rows rows'
 unfolding rows_of
-job_put s pieces rows to pieces' rows' n a b c d z =
+job_put s pieces rows to pieces' rows' few room z =
     let p = z.put in
     let l = length_rows s (u16 s (zones_at s)) (zones_at s + 2) in
     record {
       count = refl;
-      coords = rw a at p.coords ∙ all_coords s;
-      sizes = rw b at p.sizes ∙ all_sizes s;
-      rings = rw c at p.rings ∙ all_rings s;
+      coords = p.coords ∙ rw all_coords;
+      sizes = p.sizes ∙ rw all_sizes;
+      rings = p.rings ∙ rw all_rings;
       row = z.row ∙ sets_written (flat (zone_row s) (zone_end s) (u16 s (zones_at s)) (zones_at s + 2)) rows (omega arith);
     }

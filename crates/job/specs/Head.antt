@@ -1,5 +1,6 @@
 -- The job's first bytes: its length, its version, the packer's options, and the obstacles. What is refused, and what is read. Definitions only.
 use Rattle.std.specs.Prelude.{ℕ, zero, suc, ◌+◌, ◌-◌, ◌*◌, cond, List, length, leb, eqb, Float, None, Some, Option}
+use Rattle.glyphs.specs.declared.rect.Rectangle.{Rectangle}
 use Rattle.glyphs.specs.declared.options.GlyphArrangement.{GlyphArrangement}
 use Rattle.glyphs.specs.declared.options.GlyphArrangement.TheVariants.{Uniform, Rectangular, LowDiscrepancy, Random}
 use Rattle.glyphs.specs.declared.options.ObstaclePolicy.{ObstaclePolicy}
@@ -98,6 +99,10 @@ policy_of n = cond (eqb n 0) BestEffort Strict
 unfoldable pub radius_of : ℕ → ℕ → Radius
 radius_of kind n = cond (eqb kind 0) Auto (Stated (share n))
 
+-- arrangement, policy and radius
+abbrev pub choices_of : List ℕ → GlyphArrangement × ObstaclePolicy × Radius
+choices_of s = (arrangement_of (u8 s arrangement_at), policy_of (u8 s policy_at), radius_of (u8 s radius_kind_at) (u32 s radius_at))
+
 unfoldable pub boundary_of : ℕ → ℕ → Option Float
 boundary_of kind n = cond (eqb kind 0) None (Some (share n))
 
@@ -116,13 +121,40 @@ options_of s =
 
 -- ---- row 8, the obstacles: count u16 0..64, then centre x, centre y, width and height of each
 
+-- those at `at`
+abbrev pub obstacles_fault_at : List ℕ → ℕ → ℕ
+obstacles_fault_at s at =
+    u16_in s at 0 64 8
+    or_else faults (coord_in s 8) next_coord (4 * u16 s at) (at + 2)
+
+abbrev pub obstacles_end_at : List ℕ → ℕ → ℕ
+obstacles_end_at s at = at + 2 + 16 * u16 s at
+
+abbrev pub obstacles_from : List ℕ → ℕ → List Float
+obstacles_from s at = each (coord_at s) next_coord (4 * u16 s at) (at + 2)
+
+-- the job's
 unfoldable pub obstacles_fault : List ℕ → ℕ
-obstacles_fault s =
-    u16_in s obstacles_at 0 64 8
-    or_else faults (coord_in s 8) next_coord (4 * u16 s obstacles_at) (obstacles_at + 2)
+obstacles_fault s = obstacles_fault_at s obstacles_at
 
 unfoldable pub obstacles_end : List ℕ → ℕ
-obstacles_end s = obstacles_at + 2 + 16 * u16 s obstacles_at
+obstacles_end s = obstacles_end_at s obstacles_at
 
 unfoldable pub obstacles : List ℕ → List Float
-obstacles s = each (coord_at s) next_coord (4 * u16 s obstacles_at) (obstacles_at + 2)
+obstacles s = obstacles_from s obstacles_at
+
+-- ---- one obstacle: what is refused, what stands there, and where the next stands
+
+unfoldable pub rectangle_fault : List ℕ → ℕ → ℕ
+rectangle_fault s at = faults (coord_in s 8) next_coord 4 at
+
+unfoldable pub rectangle : List ℕ → ℕ → Rectangle
+rectangle s at =
+    record {
+      center = record { x = coord_at s at; y = coord_at s (at + 4) };
+      width = coord_at s (at + 8);
+      height = coord_at s (at + 12);
+    }
+
+abbrev pub next_rectangle : ℕ → ℕ
+next_rectangle at = at + 16

@@ -1,16 +1,25 @@
 -- Laws of the job's first bytes.
 -- Rests on the laws of rows and items.
-use Rattle.std.specs.Prelude.{ℕ, zero, suc, ◌+◌, ◌*◌, ◌≤◌, ◌≡◌, refl, List, length, Float, Option}
-use Rattle.std.proofs.Common.{arith, leb-true}
+use Rattle.std.specs.Prelude.{ℕ, zero, suc, ◌+◌, ◌*◌, ◌<◌, ◌≤◌, ◌≡◌, refl, List, length, Float, Option, Result, Ok, IfOk}
+use Rattle.std.proofs.Common.{◌∙◌, arith, leb-true}
 use Rattle.glyphs.specs.declared.options.GlyphArrangement.{GlyphArrangement}
 use Rattle.glyphs.specs.declared.options.ObstaclePolicy.{ObstaclePolicy}
 use Rattle.discs.specs.declared.options.Radius.{Radius}
 use Rattle.discs.specs.declared.options.GlyphOptions.{GlyphOptions}
+use Rattle.format.specs.declared.refusal.Refusal.{Refusal}
+use Rattle.format.specs.Refusals.{fault_of}
 use Rattle.format.specs.Numbers.{u16, u32_in, coord_at, next_coord}
 use Rattle.format.specs.RowLaws.{both, passed, length_each}
-use Rattle.job.specs.Head.{obstacles_at, number_after, measures_fault, head_fault, obstacles}
+use Rattle.format.specs.NumberLaws.{item_cut}
+use Rattle.format.specs.RefusalLaws.{given}
+use Rattle.job.specs.Head.{obstacles_at, number_after, measures_fault, head_fault, options_of, obstacles}
 
 -- ---- the number after a kind
+
+pub after_cut : (kind : ℕ) (s : List ℕ) (at most : ℕ) → length s < at + 4 → 6 ≡ number_after kind s at most
+unfolding number_after
+after_cut zero s at most h = item_cut 4 s at 0 0 5 h refl
+after_cut (suc kind) s at most h = item_cut 4 s at 0 most 4 h refl
 
 pub after_none : (kind : ℕ) (s : List ℕ) (at most : ℕ) → kind ≡ 0 → u32_in s at 0 0 5 ≡ number_after kind s at most
 unfolding number_after
@@ -34,6 +43,13 @@ head_whole s e =
 pub length_obstacles : (s : List ℕ) → length (obstacles s) ≡ 4 * u16 s obstacles_at
 unfolding obstacles
 length_obstacles s = length_each next_coord (coord_at s) (4 * u16 s obstacles_at) (obstacles_at + 2)
+
+-- ---- a head without fault gives its options
+
+pub options_given :
+    (s : List ℕ) (r : Result GlyphOptions Refusal) → head_fault s ≡ 0 → fault_of r ≡ head_fault s → IfOk r (λ options. options ≡ options_of s)
+    → r ≡ Ok (options_of s)
+options_given s r e f h = given r (f ∙ e) h
 
 -- ---- options are equal where their parts are
 

@@ -10,7 +10,7 @@ use Rattle.glyphs.specs.Points.{vertices}
 use Rattle.format.specs.Rows.{◌unless◌, ◌or_else◌, faults, past, each, flat}
 use Rattle.format.specs.Numbers.{u16, u16_in}
 use Rattle.job.specs.Head.{lent_fault, head_fault, options_of, obstacles_fault, obstacles_end, obstacles}
-use Rattle.job.specs.Zones.{Place, zone, zone_end, zone_fault, zone_next, zone_row}
+use Rattle.job.specs.Zones.{Place, first_place, zone, zone_end, zone_fault, zone_next, zone_row}
 
 -- ---- zone count u16 0..64, zones, and nothing after them
 
@@ -18,7 +18,7 @@ abbrev pub zones_at : List ℕ → ℕ
 zones_at s = obstacles_end s
 
 abbrev pub first_zone : List ℕ → Place
-first_zone s = record { at = zones_at s + 2; last = []; marks = 0 }
+first_zone s = first_place (zones_at s + 2)
 
 unfoldable pub zones_end : List ℕ → ℕ
 zones_end s = past (zone_end s) (u16 s (zones_at s)) (zones_at s + 2)

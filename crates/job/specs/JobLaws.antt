@@ -34,7 +34,8 @@ module _ (s : List ℕ) where
 
   pub all_sizes : flat (zone_sizes s) (zone_end s) (u16 s (zones_at s)) (zones_at s + 2) ≡ sizes_of (zones s)
   unfolding sizes_of zones
-  all_sizes = flat_each (zone_end s) (zone s) (λ (z : Zone). flat_map (map vertices) z.pieces) (zone_sizes s) zone_sizes_lem (u16 s (zones_at s)) (zones_at s + 2)
+  all_sizes =
+      flat_each (zone_end s) (zone s) (λ (z : Zone). flat_map (map vertices) z.pieces) (zone_sizes s) zone_sizes_lem (u16 s (zones_at s)) (zones_at s + 2)
 
   pub all_rings : flat (zone_rings s) (zone_end s) (u16 s (zones_at s)) (zones_at s + 2) ≡ rings_of (zones s)
   unfolding rings_of zones

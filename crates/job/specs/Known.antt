@@ -62,10 +62,12 @@ options_known s e =
     let m3 = (both _ _ m2).1 in
     let m4 = (both _ _ m3).1 in
     let p = item_passed 4 s precision_at 1 1048576 4 (omega arith) (both _ _ m3).0 in
+    let r = number_known (u8 s radius_kind_at) s radius_at 1048576 c in
+    let b = number_known (u8 s boundary_kind_at) s boundary_gap_at 16384 (both _ _ m2).0 in
     record {
-      radius = radius_known (eqb (u8 s radius_kind_at) 0) (u32 s radius_at) (number_known (u8 s radius_kind_at) s radius_at 1048576 c);
+      radius = radius_known (eqb (u8 s radius_kind_at) 0) (u32 s radius_at) r;
       gap = record { number = u32 s gap_at; from = omega arith; to = (item_passed 4 s gap_at 0 16384 4 (omega arith) (both _ _ m).0).to; is = refl };
-      boundary = boundary_known (eqb (u8 s boundary_kind_at) 0) (u32 s boundary_gap_at) (number_known (u8 s boundary_kind_at) s boundary_gap_at 16384 (both _ _ m2).0);
+      boundary = boundary_known (eqb (u8 s boundary_kind_at) 0) (u32 s boundary_gap_at) b;
       precision = record { number = u32 s precision_at; from = p.from; to = p.to; is = refl };
       attempts = (item_passed 4 s attempts_at 0 2000 4 (omega arith) (both _ _ m4).0).to;
     }

@@ -1,8 +1,8 @@
 -- Laws of rows: what the rows of a job without fault say of its zones, and the room that its sheet may want.
 -- Rests on the laws of runs and zones.
-use Rattle.std.specs.Prelude.{ℕ, zero, suc, ◌+◌, ◌*◌, ◌≤◌, ◌≡◌, Bool, true, false, cond, List, [], ◌∷◌, length, take, drop}
+use Rattle.std.specs.Prelude.{ℕ, zero, suc, ◌+◌, ◌*◌, ◌<◌, ◌≤◌, ◌≡◌, Bool, true, false, cond, List, [], ◌∷◌, length, take, drop, get_or}
 use Rattle.std.proofs.Math.Path.{refl, ap}
-use Rattle.std.proofs.Common.{sym, ◌∙◌, arith}
+use Rattle.std.proofs.Common.{sym, ◌∙◌, arith, add-one, drop-cons, drop_of_length-le}
 use Rattle.laws.specs.Every.{Every}
 use Rattle.format.specs.Rows.{faults, each, flat}
 use Rattle.format.specs.Numbers.{u8, u16}
@@ -101,6 +101,15 @@ rows_room_lem s [] [] r = unfold work_of zones_room in refl
 rows_room_lem s [] (row ∷ rows) r = absurd r
 rows_room_lem s (z ∷ zs) [] r = absurd r
 rows_room_lem s (z ∷ zs) (row ∷ rows) r = ap (λ (x : ℕ). row_room row + x) (rows_room_lem s zs rows r.1) ∙ row_room_lem s z row zs r.0
+
+-- one turn of a walk over rows
+pub rooms_turn : (rows : List Row) (k : ℕ) (d : Row) → k < length rows → rows_room (drop k rows) ≡ row_room (get_or rows k d) + rows_room (drop (k + 1) rows)
+unfolding rows_room
+rooms_turn rows k d h = rw (add-one k, drop-cons rows k d h)
+
+pub rooms_end : (rows : List Row) (k : ℕ) → length rows ≤ k → rows_room (drop k rows) ≡ 0
+unfolding rows_room
+rooms_end rows k h = rw (drop_of_length-le rows h)
 
 module _ (s : List ℕ) (ok : items_fault s ≡ 0) where
   no_fault : faults (zone_fault s) (zone_next s) (u16 s (zones_at s)) (first_zone s) ≡ 0

@@ -95,7 +95,8 @@ module _ (s : List ℕ) (p x q y : ℕ) (some : 0 < x) (in_p : p + x ≤ length 
     pub above_less : get_or s p 0 < get_or s q 0 → above (take x (drop p s)) (take y (drop q s)) ≡ false
     unfolding above
     above_less h =
-        rw (next_byte_lem s p x some in_p, next_byte_lem s q y also in-q, le-ltb (get_or s q 0) (get_or s p 0) (omega arith), lt-ltb (get_or s p 0) (get_or s q 0) h)
+        let below = le-ltb (get_or s q 0) (get_or s p 0) (omega arith) in
+        rw (next_byte_lem s p x some in_p, next_byte_lem s q y also in-q, below, lt-ltb (get_or s p 0) (get_or s q 0) h)
 
     pub above_same :
         get_or s p 0 ≤ get_or s q 0 → get_or s q 0 ≤ get_or s p 0

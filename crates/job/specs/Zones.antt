@@ -70,6 +70,10 @@ pub record Place : Type 0 where
   pub last : List ℕ
   pub marks : ℕ
 
+-- the first zone's, at `at`
+abbrev pub first_place : ℕ → Place
+first_place at = record { at = at; last = []; marks = 0 }
+
 -- its key and its counts
 unfoldable pub opening_fault : List ℕ → Place → ℕ
 opening_fault s z = key_fault s z.at z.last or_else counts_fault s (count_at s z.at) z.marks

@@ -1,9 +1,10 @@
 // The job's first bytes: its length, its version, the packer's options, and the obstacles.
-ghost use Rattle.std.specs.Prelude.{◌≡◌, ◌+◌, ◌^◌, ◌<◌, [], length, IfOk, OnOk};
+ghost use Rattle.std.specs.Prelude.{◌≡◌, ◌+◌, ◌^◌, ◌<◌, ◌≤◌, ◌++◌, length, IfOk, OnOk};
+ghost use Rattle.glyphs.specs.Rect.{rectangles};
 ghost use Rattle.format.specs.Refusals.{fault_of};
 ghost use Rattle.format.specs.Rows.{◌or_else◌};
 ghost use Rattle.format.specs.Numbers.{u8, u32, u8_in};
-ghost use Rattle.job.specs.Head.{version_at, arrangement_at, policy_at, radius_kind_at, radius_at, gap_at, obstacles_at, lent_fault, work_fault, number_after, choices_fault, head_fault, arrangement_of, policy_of, radius_of, options_of, obstacles_fault, obstacles_end, obstacles};
+ghost use Rattle.job.specs.Head.{version_at, arrangement_at, gap_at, obstacles_at, lent_fault, work_fault, number_after, choices_fault, head_fault, arrangement_of, policy_of, choices_of, options_of, obstacles_fault_at, obstacles_end_at, obstacles_from, rectangle_fault, rectangle, next_rectangle};
 ghost use Rattle.job.specs.Steps.{number_of_kind};
 
 use arrayvec::ArrayVec;
@@ -12,6 +13,7 @@ use format::numbers::uint;
 use format::reader::Reader;
 use format::refusal::Refusal;
 use glyphs::options::{GlyphArrangement, ObstaclePolicy};
+use glyphs::rect::{Point, Rectangle};
 
 // Row 1, the lent job. The reader stands behind the length field.
 pub fn open(bytes: &[u8]) -> Result<Reader<'_>, Refusal>
@@ -38,8 +40,11 @@ pub fn check_work(first: usize, second: usize) -> Result<(), Refusal>
 // A kind, and the number after it: none after kind 0.
 fn read_choice(job: &mut Reader, most: u64) -> Result<Option<f64>, Refusal>
     requires { most < 2 ^ 32 }
-    ensures fault { fault_of result ≡ u8_in job.old.bytes.now job.old.at 0 1 4 or_else number_after (u8 job.old.bytes.now job.old.at) job.old.bytes.now (job.old.at + 1) most }
-    ensures value { IfOk result (λ number. number ≡ number_of_kind (u8 job.old.bytes.now job.old.at) (u32 job.old.bytes.now (job.old.at + 1))) }
+    ensures fault { fault_of result
+        ≡ u8_in job.old.bytes.now job.old.at 0 1 4
+        or_else number_after (u8 job.old.bytes.now job.old.at) job.old.bytes.now (job.old.at + 1) most }
+    ensures value { IfOk result (λ number.
+        number ≡ number_of_kind (u8 job.old.bytes.now job.old.at) (u32 job.old.bytes.now (job.old.at + 1))) }
     ensures next { OnOk result (job.new.at ≡ job.old.at + 5) }
     ensures bytes { job.new.bytes ≡ job.old.bytes }
 {
@@ -51,6 +56,7 @@ fn read_choice(job: &mut Reader, most: u64) -> Result<Option<f64>, Refusal>
     Ok(Some(job.share(0, most, Refusal::HeadValue)?))
 }
 
+// The case of a number that `item` found in its range. A `TryFrom` could fail, and these two cannot.
 fn arrangement_of(n: u64) -> GlyphArrangement
     ensures { result ≡ arrangement_of n }
 {
@@ -75,7 +81,7 @@ fn policy_of(n: u64) -> ObstaclePolicy
 fn read_choices(job: &mut Reader) -> Result<(GlyphArrangement, ObstaclePolicy, Radius), Refusal>
     requires { job.old.at ≡ arrangement_at }
     ensures fault { fault_of result ≡ choices_fault job.old.bytes.now }
-    ensures value { IfOk result (λ choices. choices ≡ (arrangement_of (u8 job.old.bytes.now arrangement_at), policy_of (u8 job.old.bytes.now policy_at), radius_of (u8 job.old.bytes.now radius_kind_at) (u32 job.old.bytes.now radius_at))) }
+    ensures value { IfOk result (λ choices. choices ≡ choices_of job.old.bytes.now) }
     ensures next { OnOk result (job.new.at ≡ gap_at) }
     ensures bytes { job.new.bytes ≡ job.old.bytes }
 {
@@ -115,15 +121,38 @@ pub fn read_options(job: &mut Reader) -> Result<GlyphOptions, Refusal>
     })
 }
 
-// Row 8, the obstacles: centre x, centre y, width and height of each.
-pub fn read_obstacles(job: &mut Reader, out: &mut ArrayVec<f64, 256>) -> Result<(), Refusal>
-    requires { (job.old.at ≡ obstacles_at) × (out.old.items ≡ []) }
-    ensures fault { fault_of result ≡ obstacles_fault job.old.bytes.now }
-    ensures read { OnOk result (out.new.items ≡ obstacles job.old.bytes.now) }
-    ensures next { OnOk result (job.new.at ≡ obstacles_end job.old.bytes.now) }
+// The next obstacle: centre x, centre y, width and height.
+fn read_rectangle(job: &mut Reader) -> Result<Rectangle, Refusal>
+    ensures fault { fault_of result ≡ rectangle_fault job.old.bytes.now job.old.at }
+    ensures value { IfOk result (λ rect. rect ≡ rectangle job.old.bytes.now job.old.at) }
+    ensures next { OnOk result (job.new.at ≡ next_rectangle job.old.at) }
     ensures bytes { job.new.bytes ≡ job.old.bytes }
 {
-    let n = job.item(2, 0, 64, Refusal::Obstacle)? as usize;
-    job.coords(4 * n, Refusal::Obstacle, out)?;
+    let center = Point {
+        x: job.coord(Refusal::Obstacle)?,
+        y: job.coord(Refusal::Obstacle)?,
+    };
+    Ok(Rectangle {
+        center,
+        width: job.coord(Refusal::Obstacle)?,
+        height: job.coord(Refusal::Obstacle)?,
+    })
+}
+
+// Row 8: the obstacles where the reader stands, put behind those of `out`.
+pub fn read_obstacles<const N: usize>(
+    job: &mut Reader,
+    out: &mut ArrayVec<Rectangle, N>,
+) -> Result<(), Refusal>
+    requires { length out.old.items + 64 ≤ N }
+    ensures fault { fault_of result ≡ obstacles_fault_at job.old.bytes.now job.old.at }
+    ensures read { OnOk result (out.new.items ≡ out.old.items ++ rectangles (obstacles_from job.old.bytes.now job.old.at)) }
+    ensures next { OnOk result (job.new.at ≡ obstacles_end_at job.old.bytes.now job.old.at) }
+    ensures bytes { job.new.bytes ≡ job.old.bytes }
+{
+    let n = job.item(2, 0, 64, Refusal::Obstacle)?;
+    for _i in 0..n {
+        out.push(read_rectangle(job)?);
+    }
     Ok(())
 }

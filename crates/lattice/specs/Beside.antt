@@ -1,6 +1,6 @@
 -- The obstacles of a row: those so far above or below it that they keep the margin to each of its places are left out.
 -- Rests on rounding: a sum of squares is at least each of them, and a square from the margin's on has a root of at least the clearance.
-use Rattle.std.specs.Prelude.{◌≡◌, ℕ, ◌*◌, ◌≤◌, Bool, true, false, cond, not, ◌&&◌, T, List, [], ◌∷◌, take, Some, ℤ, refl, Float}
+use Rattle.std.specs.Prelude.{◌≡◌, ℕ, ◌*◌, Bool, true, false, cond, not, ◌&&◌, T, List, [], ◌∷◌, ℤ, refl, Float}
 use Rattle.std.proofs.Common.{ap, inl, inr, arith}
 use Rattle.std.proofs.lemmas.Bool.{not-false}
 use Rattle.std.specs.Float.{nan, inf, fin, binary64}
@@ -21,10 +21,9 @@ use Rattle.rounding.specs.Comparison.{≼→le}
 use Rattle.rounding.proofs.Errors.{add_of_finite}
 use Rattle.rounding.specs.Signs.{Nonneg, add_case}
 use Rattle.glyphs.specs.declared.rect.Rectangle.{Rectangle}
-use Rattle.glyphs.specs.Rect.{rectangles, dist_to_rect, clear_of_obstacles, filter}
+use Rattle.glyphs.specs.Rect.{dist_to_rect, clear_of_obstacles, filter}
 use Rattle.regions.specs.Margin.{high_square, high_square_lem}
 use Rattle.regions.specs.Pillars.{beyond, rect_square, rect_root}
-use Rattle.lattice.specs.declared.beside.Beside.{Beside}
 use Rattle.lattice.specs.declared.site.Site.{Site}
 
 -- whether an obstacle may be too near a place at the height y, for all that is seen of the heights
@@ -33,14 +32,9 @@ abreast y high rect =
     let dy = beyond y rect.center.y rect.height in
     not (dy *ᶠ dy ≥ᶠ high)
 
--- asked of the places of the row, the m rectangles at the front of the list answer for all
-pub record Held (y : Float) (m : ℕ) (beside : Beside) (site : Site) : Type 0 where
-  pub few : m ≤ 32
-  pub answer :
-      (x : Float) → clear_of_obstacles x y (rectangles (take (m * 4) beside.pillars)) site.margin.least ≡ clear_of_obstacles x y (rectangles site.near.now) site.margin.least
-
-unfoldable pub BesideOf : Float → Beside → Site → Type 0
-BesideOf y beside site = (m : ℕ) → beside.count ≡ Some m → Held y m beside site
+-- asked of the places of the row, these obstacles answer for all
+abbrev pub BesideOf : Float → List Rectangle → Site → Type 0
+BesideOf y pillars site = (x : Float) → clear_of_obstacles x y pillars site.margin.least ≡ clear_of_obstacles x y site.near.now site.margin.least
 
 -- ---- a sum of two values without a minus sign is at least the second
 below_∞ : (x : Float) → T (finite x) → T (le x (inf false))

@@ -1,11 +1,11 @@
 -- regions.rs, `point_in_polygon` at one height: where the height crosses each ring. A point of that height is inside a ring where it is left of an odd number of crossings.
 -- Rests on the definitions of the inside test.
-use Rattle.std.specs.Prelude.{◌≡◌, ℕ, zero, suc, ◌+◌, ◌-◌, ◌<◌, ◌≤◌, Bool, true, false, cond, not, ◌&&◌, List, [], ◌∷◌, ◌++◌, length, take, drop, nat_lt, slice_index, slice_index_or, slice_range, slice_set, refl, Float}
-use Rattle.std.proofs.Common.{sym, ap, ◌∙◌, arith, add-one, zero-add, lt-ltb, le-ltb, length-append, length-take, take-append-drop, drop_at, get_or-take, length-take-le}
+use Rattle.std.specs.Prelude.{◌≡◌, ℕ, zero, suc, ◌+◌, ◌-◌, ◌<◌, ◌≤◌, Bool, true, false, cond, not, ◌&&◌, List, [], ◌∷◌, ◌++◌, length, take, drop, nat_lt, slice_index, slice_range, slice_set, refl, Float}
+use Rattle.std.proofs.Common.{sym, ap, ◌∙◌, arith, add-one, zero-add, lt-ltb, le-ltb, length-append, drop_at, length-take-le}
 use Rattle.std.specs.Bool.{beq}
 use mathlib.Core.List.{foldl, append_assoc, append-nil}
 use Rattle.std.proofs.Math.Nat.{add-sub_cancel_left}
-use Rattle.std.proofs.Math.Seq.{slice, take-suc-set, take-append_seam}
+use Rattle.std.proofs.Math.Seq.{take-suc-set, take-append_seam}
 use Rattle.float.specs.Ops.{◌+ᶠ◌, ◌-ᶠ◌, ◌*ᶠ◌, ◌/ᶠ◌, ◌<ᶠ◌, ◌>ᶠ◌, ε}
 use Rattle.glyphs.specs.Points.{Ring, vertices, x_at, y_at}
 use Rattle.regions.specs.declared.piece.RegionPiece.{RegionPiece}
@@ -57,26 +57,25 @@ odd_any x crossings from [] = false
 odd_any x crossings from (to ∷ ends) = cond (odd x (slice_range crossings from to)) true (odd_any x crossings to ends)
 
 -- in_outer && !in_any_hole
-unfoldable pub inside_level : Float → ℕ → List Float → List ℕ → Bool
-inside_level x rings crossings ends =
-    odd x (take (slice_index ends 0) crossings) && not (odd_any x crossings (slice_index ends 0) (slice 1 rings ends))
+unfoldable pub inside_level : Float → List Float → List ℕ → Bool
+inside_level x crossings ends =
+    odd x (take (slice_index ends 0) crossings) && not (odd_any x crossings (slice_index ends 0) (drop 1 ends))
 
--- ends that ascend, from `from` to 32 at most
-abbrev pub Ascend : ℕ → List ℕ → Type 0
-Ascend from [] = from ≤ 32
-Ascend from (to ∷ ends) = (from ≤ to) × Ascend to ends
+-- ends that ascend, from `from` to `most` at most
+abbrev pub Ascend : ℕ → ℕ → List ℕ → Type 0
+Ascend most from [] = from ≤ most
+Ascend most from (to ∷ ends) = (from ≤ to) × Ascend most to ends
 
--- the ends of the rings, at the front of an array
-pub record Ends (rings : ℕ) (ends : List ℕ) : Type 0 where
-  pub some : 0 < rings
-  pub few : rings ≤ 16
-  pub room : length ends ≡ 16
-  pub ascend : Ascend 0 (take rings ends)
+-- the ends of some rings, each within the crossings
+pub record Ends (crossings : List Float) (ends : List ℕ) : Type 0 where
+  pub some : 0 < length ends
+  pub ascend : Ascend (length crossings) 0 ends
 
 -- what is found of a height serves each point of it
 pub record Crossed (y : Float) (piece : RegionPiece) (crossings : List Float) (ends : List ℕ) : Type 0 where
-  pub ends_are : Ends (length piece.sizes.now) ends
-  pub inside : (x : Float) → inside_level x (length piece.sizes.now) crossings ends ≡ within x y (rings_of piece)
+  pub ends_are : Ends crossings ends
+  pub each : length ends ≡ length piece.sizes.now
+  pub inside : (x : Float) → inside_level x crossings ends ≡ within x y (rings_of piece)
 
 -- ---- one ring
 
@@ -180,57 +179,61 @@ holes_odd x y (ring ∷ rings) pre rest from e =
     rw (first, further)
 
 piece_odd :
-    (x y : Float) (ring : Ring) (rings : List Ring) (rest : List Float) (rings-are : ℕ) (ends : List ℕ) → 0 < rings-are
-    → take rings-are ends ≡ ends_of y 0 (ring ∷ rings)
-    → inside_level x rings-are (crossings_of_all y (ring ∷ rings) ++ rest) ends ≡ within x y (ring ∷ rings)
+    (x y : Float) (ring : Ring) (rings : List Ring)
+    → inside_level x (crossings_of_all y (ring ∷ rings)) (ends_of y 0 (ring ∷ rings)) ≡ within x y (ring ∷ rings)
 unfolding inside_level within outer holes ends_of crossings_of_all
-piece_odd x y ring rings rest n ends h e =
+piece_odd x y ring rings =
     let cs = crossings_of y ring in
     let all = crossings_of_all y rings in
-    let end : slice_index_or ends 0 0 ≡ length cs = sym (get_or-take n ends 0 0 h) ∙ ap (λ (l : List ℕ). slice_index l 0) e ∙ zero-add (length cs) in
-    let later : slice 1 n ends ≡ ends_of y (length cs) rings = ap (drop 1) e ∙ rw (zero-add (length cs)) in
-    let first : odd x (take (length cs) ((cs ++ all) ++ rest)) ≡ point_in_polygon x y ring =
-    rw (append_assoc cs all rest, take-append_seam cs (all ++ rest)) (ring_odd x y ring) in
-    let further : odd_any x ((cs ++ all) ++ rest) (length cs) (ends_of y (length cs) rings) ≡ in_any x y rings =
-    rw (append_assoc cs all rest) (holes_odd x y rings cs rest (length cs) refl) in
-    rw (end, later, first, further)
+    let n : 0 + length cs ≡ length cs = zero-add (length cs) in
+    let first : odd x (take (length cs) (cs ++ all)) ≡ point_in_polygon x y ring = rw (take-append_seam cs all) (ring_odd x y ring) in
+    let further : odd_any x (cs ++ all) (length cs) (ends_of y (length cs) rings) ≡ in_any x y rings =
+    ap (λ (l : List Float). odd_any x (cs ++ l) (length cs) (ends_of y (length cs) rings)) (sym (append-nil all))
+    ∙ holes_odd x y rings cs [] (length cs) refl in
+    rw (n, first, further)
 
-ends_ascend : (y : Float) (rings : List Ring) (from : ℕ) → from + length (crossings_of_all y rings) ≤ 32 → Ascend from (ends_of y from rings)
+ends_ascend : (y : Float) (rings : List Ring) (from most : ℕ) → from + length (crossings_of_all y rings) ≤ most → Ascend most from (ends_of y from rings)
 unfolding ends_of crossings_of_all
-ends_ascend y [] from h = omega arith
-ends_ascend y (ring ∷ rings) from h =
+ends_ascend y [] from most h = omega arith
+ends_ascend y (ring ∷ rings) from most h =
     let n = length-append (crossings_of y ring) (crossings_of_all y rings) in
-    (omega arith, ends_ascend y rings (from + length (crossings_of y ring)) (omega arith))
+    (omega arith, ends_ascend y rings (from + length (crossings_of y ring)) most (omega arith))
 
--- a piece has as many rings as sizes
+-- a piece has as many rings as sizes, and there is an end for each
 pub length_rings : (a : ℕ) (sizes : List ℕ) (coords : List Float) → length (rings_from a sizes coords) ≡ length sizes
 unfolding rings_from
 length_rings a [] coords = refl
 length_rings a (n ∷ sizes) coords = ap suc (length_rings (a + n) sizes coords)
 
--- what stands in the arrays after the last ring
-pub crossed :
-    (y : Float) (piece : RegionPiece) (crossings : List Float) (ends : List ℕ) (c k : ℕ) → 0 < length piece.sizes.now → k ≤ 16 → length ends ≡ 16 → c ≤ 32
-    → k ≡ length piece.sizes.now → crossings_of_all y (rings_of piece) ≡ take c crossings → ends_of y 0 (rings_of piece) ≡ take k ends
-    → Crossed y piece crossings ends
-crossed y piece crossings ends c k h few room le z e f =
-    let n = length-take c crossings in
-    let l : length (crossings_of_all y (rings_of piece)) ≤ 32 = rw e (omega arith) in
+length_ends : (y : Float) (c : ℕ) (rings : List Ring) → length (ends_of y c rings) ≡ length rings
+unfolding ends_of
+length_ends y c [] = refl
+length_ends y c (ring ∷ rings) = ap suc (length_ends y (c + length (crossings_of y ring)) rings)
+
+-- what is found after the last ring
+ends_some : (y : Float) (ring : Ring) (rings : List Ring) → 0 < length (ends_of y 0 (ring ∷ rings))
+unfolding ends_of
+ends_some y ring rings = omega arith
+
+crossed_all :
+    (y : Float) (piece : RegionPiece) (ring : Ring) (rings : List Ring) → ring ∷ rings ≡ rings_of piece
+    → Crossed y piece (crossings_of_all y (ring ∷ rings)) (ends_of y 0 (ring ∷ rings))
+crossed_all y piece ring rings e =
     record {
-      ends_are = record { some = h; few = omega arith; room = room; ascend = rw (← z, ← f) (ends_ascend y (rings_of piece) 0 (omega arith)) };
-      inside = λ (x : Float). inside x;
+      ends_are = record { some = ends_some y ring rings; ascend = ends_ascend y (ring ∷ rings) 0 (length (crossings_of_all y (ring ∷ rings))) (omega arith) };
+      each = length_ends y 0 (ring ∷ rings) ∙ ap length e ∙ length_rings 0 piece.sizes.now piece.coords.now;
+      inside = λ (x : Float). piece_odd x y ring rings ∙ ap (within x y) e;
     }
-  where
-    inside : (x : Float) → inside_level x (length piece.sizes.now) crossings ends ≡ within x y (rings_of piece)
-    inside x =
-        let sizes = piece.sizes.now in
-        let coords = piece.coords.now in
-        let p = first_ring sizes coords h in
-        let e' = ap (crossings_of_all y) (sym p) ∙ e in
-        let f' = ap (λ (i : ℕ). take i ends) (sym z) ∙ sym f ∙ ap (ends_of y 0) p in
-        ap (λ (l : List Float). inside_level x (length sizes) l ends) (sym (take-append-drop c crossings) ∙ ap (λ (l : List Float). l ++ drop c crossings) (sym e'))
-        ∙ piece_odd x y (part coords 0 (slice_index sizes 0)) (rings_from (slice_index sizes 0) (drop 1 sizes) coords) (drop c crossings) (length sizes) ends h f'
-        ∙ ap (within x y) (sym p)
+
+pub crossed :
+    (y : Float) (piece : RegionPiece) (crossings : List Float) (ends : List ℕ) → crossings_of_all y (rings_of piece) ≡ crossings
+    → ends_of y 0 (rings_of piece) ≡ ends → Crossed y piece crossings ends
+crossed y piece crossings ends e f =
+    let sizes = piece.sizes.now in
+    let coords = piece.coords.now in
+    let p = first_ring sizes coords piece.outer_ring in
+    rw (sym e ∙ ap (crossings_of_all y) p, sym f ∙ ap (ends_of y 0) p)
+    (crossed_all y piece (part coords 0 (slice_index sizes 0)) (rings_from (slice_index sizes 0) (drop 1 sizes) coords) (sym p))
 
 -- how many there are then
 pub counted :

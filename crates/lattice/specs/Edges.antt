@@ -1,4 +1,4 @@
--- The edges near a height, written to an array: a place of that height keeps a clearance from the piece where it keeps it from them.
+-- The edges near a height: a place of that height keeps a clearance from the piece where it keeps it from them.
 -- Rests on the law of far edges, and on the least of distances being at least c where each of them is.
 use Rattle.std.specs.Prelude.{◌≡◌, ℕ, zero, suc, ◌+◌, ◌<◌, ◌≤◌, Bool, true, false, cond, not, ◌&&◌, T, List, [], ◌∷◌, length, nat_lt, take, set, refl, Float}
 use Rattle.std.proofs.Math.Path.{sym}
@@ -50,50 +50,44 @@ keeps_after x y c ring n (suc i) = keeps_after x y c ring n i && keeps x y c (ed
 unfoldable pub keeps_ring : Float → Float → Float → Ring → Bool
 keeps_ring x y c ring = cond (nat_lt (vertices ring) 2) true (keeps_after x y c ring (vertices ring) (vertices ring))
 
--- ---- l with m edges has become r with n, which say what those and one more say, or those and a ring's
-abbrev pub Added : Float → Float → Edge → ℕ → List Edge → ℕ → List Edge → Type 0
-Added y reach e m l n r =
-    (c x : Float) → Sure c y reach → keeps_edges x y c (take n r) ≡ (keeps_edges x y c (take m l) && keeps x y c e)
+-- ---- l has become r, which says what l and one edge more say, or l and a ring's
+abbrev pub Added : Float → Float → Edge → List Edge → List Edge → Type 0
+Added y reach e l r = (c x : Float) → Sure c y reach → keeps_edges x y c r ≡ (keeps_edges x y c l && keeps x y c e)
 
-abbrev pub AddedRing : Float → Float → Ring → ℕ → List Edge → ℕ → List Edge → Type 0
-AddedRing y reach ring m l n r =
-    (c x : Float) → Sure c y reach → keeps_edges x y c (take n r) ≡ (keeps_edges x y c (take m l) && keeps_ring x y c ring)
+abbrev pub AddedRing : Float → Float → Ring → List Edge → List Edge → Type 0
+AddedRing y reach ring l r = (c x : Float) → Sure c y reach → keeps_edges x y c r ≡ (keeps_edges x y c l && keeps_ring x y c ring)
 
 -- ---- one edge more
-pub far_added : (y reach : Float) (e : Edge) (m : ℕ) (l : List Edge) → Beyond y reach e.from.y e.to.y → Added y reach e m l m l
+pub far_added : (y reach : Float) (e : Edge) (l : List Edge) → Beyond y reach e.from.y e.to.y → Added y reach e l l
 unfolding keeps
-far_added y reach e m l b c x s = rw (far_edge c x y e.from.x e.from.y e.to.x e.to.y reach s b) (sym (and-true (keeps_edges x y c (take m l))))
+far_added y reach e l b c x s = rw (far_edge c x y e.from.x e.from.y e.to.x e.to.y reach s b) (sym (and-true (keeps_edges x y c l)))
 
-pub near_added : (y reach : Float) (e : Edge) (m : ℕ) (l : List Edge) → m < length l → Added y reach e m l (m + 1) (set l m e)
+pub near_added : (y reach : Float) (e : Edge) (m : ℕ) (l : List Edge) → m < length l → Added y reach e (take m l) (take (m + 1) (set l m e))
 unfolding keeps_edges
 near_added y reach e m l h c x s = rw (add-one, take-suc-set l m e h) (all_last (keeps x y c) (take m l) e)
 
 -- ---- a ring's edges in turn
 module _ (y reach : Float) (ring : Ring) where
   -- the first i edges of the ring are added
-  abbrev pub AddedAfter : ℕ → ℕ → ℕ → List Edge → ℕ → List Edge → Type 0
-  AddedAfter n i m l m' l' =
-      (c x : Float) → Sure c y reach → keeps_edges x y c (take m' l') ≡ (keeps_edges x y c (take m l) && keeps_after x y c ring n i)
+  abbrev pub AddedAfter : ℕ → ℕ → List Edge → List Edge → Type 0
+  AddedAfter n i l r = (c x : Float) → Sure c y reach → keeps_edges x y c r ≡ (keeps_edges x y c l && keeps_after x y c ring n i)
 
-  pub after_none : (n m : ℕ) (l : List Edge) → AddedAfter n 0 m l m l
+  pub after_none : (n : ℕ) (l : List Edge) → AddedAfter n 0 l l
   unfolding keeps_after
-  after_none n m l c x s = sym (and-true (keeps_edges x y c (take m l)))
+  after_none n l c x s = sym (and-true (keeps_edges x y c l))
 
-  pub after_next :
-      (n i m : ℕ) (l : List Edge) (m' : ℕ) (l' : List Edge) (m'' : ℕ) (l'' : List Edge) → AddedAfter n i m l m' l' → Added y reach (edge_at ring n i) m' l' m'' l''
-      → AddedAfter n (i + 1) m l m'' l''
+  pub after_next : (n i : ℕ) (l m r : List Edge) → AddedAfter n i l m → Added y reach (edge_at ring n i) m r → AddedAfter n (i + 1) l r
   unfolding keeps_after
-  after_next n i m l m' l' m'' l'' f g c x s =
-      rw (add-one i, g c x s, f c x s) (and_assoc (keeps_edges x y c (take m l)) (keeps_after x y c ring n i) (keeps x y c (edge_at ring n i)))
+  after_next n i l m r f g c x s =
+      rw (add-one i, g c x s, f c x s) (and_assoc (keeps_edges x y c l) (keeps_after x y c ring n i) (keeps x y c (edge_at ring n i)))
 
-  pub ring_short : (m : ℕ) (l : List Edge) → vertices ring < 2 → AddedRing y reach ring m l m l
+  pub ring_short : (l : List Edge) → vertices ring < 2 → AddedRing y reach ring l l
   unfolding keeps_ring
-  ring_short m l h c x s = rw (lt-ltb (vertices ring) 2 h) (sym (and-true (keeps_edges x y c (take m l))))
+  ring_short l h c x s = rw (lt-ltb (vertices ring) 2 h) (sym (and-true (keeps_edges x y c l)))
 
-  pub ring_added :
-      (n i m : ℕ) (l : List Edge) (m' : ℕ) (l' : List Edge) → n ≡ vertices ring → 2 ≤ n → i ≡ n → AddedAfter n i m l m' l' → AddedRing y reach ring m l m' l'
+  pub ring_added : (n i : ℕ) (l r : List Edge) → n ≡ vertices ring → 2 ≤ n → i ≡ n → AddedAfter n i l r → AddedRing y reach ring l r
   unfolding keeps_ring
-  ring_added n i m l m' l' e h f p c x s = rw (← e, le-ltb n 2 h) (p c x s ∙ rw f)
+  ring_added n i l r e h f p c x s = rw (← e, le-ltb n 2 h) (p c x s ∙ rw f)
 
 -- ---- the least distance is c at least where every distance is
 abbrev keeps_rings : Float → Float → Float → List Ring → Bool
@@ -148,24 +142,23 @@ under_infinity (inf true) k = refl
 under_infinity (inf false) k = refl
 under_infinity (fin s m e) k = refl
 
--- ---- the rings in turn: l has m edges of the piece, and these rings are left
+-- ---- the rings in turn: l has edges of the piece, and these rings are left
 module _ (y reach : Float) (piece : Piece) where
-  unfoldable pub Left : List Ring → ℕ → List Edge → Type 0
-  Left rings m l = (c x : Float) → Number c → Sure c y reach → (keeps_edges x y c (take m l) && keeps_rings x y c rings) ≡ (c ≤ᶠ min_dist_to_rings x y piece)
+  unfoldable pub Left : List Ring → List Edge → Type 0
+  Left rings l = (c x : Float) → Number c → Sure c y reach → (keeps_edges x y c l && keeps_rings x y c rings) ≡ (c ≤ᶠ min_dist_to_rings x y piece)
 
-  pub left_all : (l : List Edge) → Left piece 0 l
+  pub left_all : Left piece []
   unfolding Left keeps_edges min_dist_to_rings all
-  left_all l c x k s = sym (rings_at_least x y c ∞ piece k ∙ rw (under_infinity c k))
+  left_all c x k s = sym (rings_at_least x y c ∞ piece k ∙ rw (under_infinity c k))
 
-  pub left_next :
-      (ring : Ring) (rings : List Ring) (m : ℕ) (l : List Edge) (m' : ℕ) (l' : List Edge) → Left (ring ∷ rings) m l → AddedRing y reach ring m l m' l' → Left rings m' l'
+  pub left_next : (ring : Ring) (rings : List Ring) (l r : List Edge) → Left (ring ∷ rings) l → AddedRing y reach ring l r → Left rings r
   unfolding Left all
-  left_next ring rings m l m' l' f g c x k s =
-      rw (g c x s) (and_assoc (keeps_edges x y c (take m l)) (keeps_ring x y c ring) (all (keeps_ring x y c) rings) ∙ f c x k s)
+  left_next ring rings l r f g c x k s =
+      rw (g c x s) (and_assoc (keeps_edges x y c l) (keeps_ring x y c ring) (all (keeps_ring x y c) rings) ∙ f c x k s)
 
-  pub left_none : (c : Float) (m : ℕ) (l : List Edge) → Number c → Sure c y reach → Left [] m l → NearEdges y c piece (take m l)
+  pub left_none : (c : Float) (l : List Edge) → Number c → Sure c y reach → Left [] l → NearEdges y c piece l
   unfolding Left all
-  left_none c m l k s f x = sym (and-true (keeps_edges x y c (take m l))) ∙ f c x k s
+  left_none c l k s f x = sym (and-true (keeps_edges x y c l)) ∙ f c x k s
 
 -- ---- the code's test of one edge, by its square
 low_square_lem : (c z : Float) → Square z → T (z <ᶠ low_square c) → T (sqrt z <ᶠ c)

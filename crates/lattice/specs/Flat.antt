@@ -8,7 +8,7 @@ use Rattle.std.proofs.Math.Seq.{take-append-add, take-append_seam}
 use Rattle.std.specs.Float.{nan}
 use Rattle.laws.specs.Lists.{written}
 use Rattle.glyphs.specs.declared.rect.Point.{Point}
-use Rattle.glyphs.specs.Spots.{flat, length_flat}
+use Rattle.glyphs.specs.Spots.{spot_at, put_spot, flat, length_flat}
 use Rattle.lattice.specs.Escape.{point}
 
 -- the first m points of a slice
@@ -20,6 +20,19 @@ points (suc m) (x ∷ y ∷ l) = point x y ∷ points m l
 
 abbrev pub point_at : List Float → ℕ → Point
 point_at l k = point (slice_index_or l (k * 2) nan) (slice_index_or l (k * 2 + 1) nan)
+
+-- these are the source's points
+pub spot_is : (l : List Float) (k : ℕ) → spot_at l k ≡ point_at l k
+unfolding spot_at
+spot_is l k = refl
+
+pub put_is : (l : List Float) (k : ℕ) (p : Point) → put_spot l k p ≡ slice_set (slice_set l (k * 2) p.x) (k * 2 + 1) p.y
+unfolding put_spot
+put_is l k p = refl
+
+-- points written to the front of a slice, and how many they are
+abbrev pub Puts : List Point → ℕ → List Float → List Float → Type 0
+Puts ps n spots spots₀ = (n ≡ length ps) × (spots ≡ written (flat ps) spots₀)
 
 -- the floats from a up to b two places on
 unfoldable pub moved : List Float → ℕ → ℕ → List Float

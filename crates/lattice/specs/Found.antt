@@ -2,10 +2,9 @@
 use Rattle.std.specs.Prelude.{Float}
 use Rattle.lattice.specs.Beside.{BesideOf}
 use Rattle.lattice.specs.Level.{Levelled}
-use Rattle.lattice.specs.declared.site.Site.{Site}
-use Rattle.lattice.specs.declared.tables.Tables.{Tables}
+use Rattle.lattice.specs.declared.tables.Nearby.{Nearby}
 
 -- what is found is that of the row of height y
-pub record Found (y : Float) (tables : Tables) (site : Site) : Type 0 where
-  pub levelled : Levelled y tables.level site
-  pub beside_of : BesideOf y tables.beside site
+pub record Found (y : Float) (nearby : Nearby) : Type 0 where
+  pub levelled : Levelled y nearby.level nearby.site
+  pub beside_of : BesideOf y nearby.pillars.now nearby.site

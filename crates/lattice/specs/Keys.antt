@@ -1,7 +1,7 @@
 -- Comparisons of floats one after another, by their keys, and the order of cells about an anchor.
 -- Rests on what a comparison of numbers says.
 use Rattle.std.specs.Prelude.{◌≡◌, ℕ, ◌≢◌, nat_lt, Float}
-use Prim.Native.Nat.{compare, Ordering}
+use Prim.Native.Nat.{Ordering}
 use Rattle.laws.specs.Orders.{◌then_by◌, is_lt, Linear, lt_differs, lt_same, lt_only, linear_compare, linear_on, linear_then}
 use Rattle.float.specs.Total.{total_key, total_cmp, total_less}
 use Rattle.glyphs.specs.declared.rect.Point.{Point}

@@ -20,6 +20,7 @@ pub mod Near
 pub mod Nearest
 pub mod Rows
 pub mod Run
+pub mod Site
 pub mod Span
 pub mod Spread
 pub mod Taken

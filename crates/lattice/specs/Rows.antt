@@ -25,20 +25,20 @@ cells_from x y s i (suc n) = point (cell_x x s i) y ∷ cells_from x y s (i + 1)
 
 -- the row of rank u, where rows are row-h apart
 module _ (field : Field) (row-h : Float) (u : ℕ) where
-  abbrev row_x : Float
+  abbrev pub row_x : Float
   row_x = field.anchor.x +ᶠ row_offset field.lattice (of_rank u)
 
-  abbrev row_y : Float
+  abbrev pub row_y : Float
   row_y = field.anchor.y +ᶠ of_int binary64 (of_rank u) *ᶠ row-h
 
-  abbrev first_cell : ℕ
+  abbrev pub first_cell : ℕ
   first_cell = rank_of (as_i64 (floor ((field.extents.min_x -ᶠ row_offset field.lattice (of_rank u) -ᶠ field.anchor.x) /ᶠ field.lattice.spacing)))
 
-  abbrev last_cell : ℕ
+  abbrev pub last_cell : ℕ
   last_cell = rank_of (as_i64 (ceil ((field.extents.max_x -ᶠ row_offset field.lattice (of_rank u) -ᶠ field.anchor.x) /ᶠ field.lattice.spacing)))
 
   -- how many cells it has
-  abbrev width : ℕ
+  abbrev pub width : ℕ
   width = suc last_cell - first_cell
 
   -- at most `left` of its cells
@@ -77,7 +77,7 @@ unfolding cells_from
 length_cells x y s i zero = refl
 length_cells x y s i (suc n) = ap suc (length_cells x y s (i + 1) n)
 
-take_cells : (x y s : Float) (m i n : ℕ) → take m (cells_from x y s i n) ≡ cells_from x y s i (min n m)
+pub take_cells : (x y s : Float) (m i n : ℕ) → take m (cells_from x y s i n) ≡ cells_from x y s i (min n m)
 unfolding cells_from
 take_cells x y s zero i n = let e : min n 0 ≡ 0 = omega arith in rw e
 take_cells x y s (suc m) i zero = let e : min 0 (suc m) ≡ 0 = omega arith in rw e
@@ -108,7 +108,7 @@ pub no_cells_lem : (x y s : Float) (i n : ℕ) → n ≡ 0 → cells_from x y s 
 unfolding cells_from
 no_cells_lem x y s i n e = rw e
 
-take_append : (m : ℕ) (xs ys : List Point) → take m (xs ++ ys) ≡ take m xs ++ take (m - length xs) ys
+pub take_append : (m : ℕ) (xs ys : List Point) → take m (xs ++ ys) ≡ take m xs ++ take (m - length xs) ys
 take_append zero xs ys = let e : 0 - length xs ≡ 0 = omega arith in rw e
 take_append (suc m) [] ys = let e : suc m - 0 ≡ suc m = omega arith in rw e
 take_append (suc m) (x ∷ xs) ys =
@@ -133,13 +133,20 @@ joined_rows field row-h u (suc n) (suc l) =
     rw (take_append (suc l) (whole_row field row-h u) (rows_from field row-h (u + 1) n), row_taken field row-h u (suc l), row_rest field row-h u (suc l))
     (ap (λ (t : List Point). row_of field row-h u (suc l) ++ t) (joined_rows field row-h (u + 1) n (suc l - length (row_of field row-h u (suc l)))))
 
+-- no cells are visited where the last row comes before the first
+pub no_rows : (left : ℕ) (field : Field) (row-h : Float) (u last : ℕ) → last < u → take left (rows_from field row-h u (suc last - u)) ≡ []
+unfolding rows_from
+no_rows left field row-h u last h =
+    let z : suc last - u ≡ 0 = omega arith in
+    ap (λ (n : ℕ). take left (rows_from field row-h u n)) z ∙ take-nil left
+
 -- ---- the rows by rank are the source's
 cells_are : (x y s : Float) (i n : ℕ) → map (λ (j : ℤ). point (x +ᶠ of_int binary64 j *ᶠ s) y) (map of_rank (span i n)) ≡ cells_from x y s i n
 unfolding span cells_from cell_x
 cells_are x y s i zero = refl
 cells_are x y s i (suc n) = ap (λ (t : List Point). point (cell_x x s i) y ∷ t) (cells_are x y s (i + 1) n)
 
-row_cells_lem :
+pub row_cells_lem :
     (field : Field) (u : ℕ)
     → row_cells field.lattice field.anchor field.extents.min_x field.extents.max_x (of_rank u) ≡ whole_row field (row_height field.lattice) u
 unfolding row_cells whole_row
@@ -167,7 +174,7 @@ first_row field row-h = rank_of (as_i64 (floor ((field.extents.min_y -ᶠ field.
 abbrev pub last_row : Field → Float → ℕ
 last_row field row-h = rank_of (as_i64 (ceil ((field.extents.max_y -ᶠ field.anchor.y) /ᶠ row-h)))
 
-all_cells_lem :
+pub all_cells_lem :
     (field : Field)
     → let row-h = row_height field.lattice in
     all_cells field.lattice field.anchor field.extents.min_x field.extents.max_x field.extents.min_y field.extents.max_y
@@ -195,12 +202,10 @@ module _ (field : Field) where
         joined_rows field row-h (first_row field row-h) (suc (last_row field row-h) - first_row field row-h) hex_enum_cap
         ∙ rw e (ap (take hex_enum_cap) (sym (all_cells_lem field)))
 
-    pub no_rows : let row-h = row_height field.lattice in last_row field row-h < first_row field row-h → walk field ≡ []
-    unfolding some_rows
-    no_rows h =
+    pub empty_walk : let row-h = row_height field.lattice in last_row field row-h < first_row field row-h → walk field ≡ []
+    empty_walk h =
         let row-h = row_height field.lattice in
-        let z : suc (last_row field row-h) - first_row field row-h ≡ 0 = omega arith in
-        sym walked ∙ rw z
+        sym walked ∙ joined_rows field row-h _ _ _ ∙ no_rows hex_enum_cap field row-h (first_row field row-h) (last_row field row-h) h
 
 no_more : (n : ℕ) (t : Bool) (ps : List Point) → length (cond t [] (take n ps)) ≤ n
 no_more n true ps = omega arith

@@ -1,20 +1,11 @@
 // The obstacles of a row, found once: its places ask only those that are not too far above or below it.
-ghost use Rattle.std.specs.Prelude.{◌≡◌, IfSome};
-ghost use Rattle.glyphs.specs.Rect.{rectangles, clear_of_obstacles};
-ghost use Rattle.lattice.specs.Beside.{abreast, BesideOf, Held};
+ghost use Rattle.std.specs.Prelude.{◌≡◌, ◌≤◌, length, take, IfSome};
+ghost use Rattle.lattice.specs.Beside.{abreast, BesideOf};
 
-use crate::near::put_if;
 use crate::site::Site;
-use glyphs::rect::{Point, Rectangle, obstacle};
+use glyphs::rect::Rectangle;
 use regions::margin::Margin;
-use regions::pillars::{beyond, clears_obstacles};
-
-// How many obstacles are held for a row, where they fit: else all are asked.
-#[derive(Drop)]
-pub struct Beside {
-    pub count: Option<usize>,
-    pub pillars: [f64; 128],
-}
+use regions::pillars::beyond;
 
 // Whether an obstacle may be too near a place at the height `y`.
 fn abreast(y: f64, rect: Rectangle, margin: Margin) -> bool
@@ -24,48 +15,20 @@ fn abreast(y: f64, rect: Rectangle, margin: Margin) -> bool
     !(dy * dy >= margin.high)
 }
 
-impl Beside {
-    // Room for what is found.
-    pub fn new() -> Beside {
-        Beside {
-            count: None,
-            pillars: [0.0; 128],
-        }
-    }
-
-    // Puts the obstacles beside a row where they are held, and answers how many they are.
-    fn put(&mut self, y: f64, site: Site) -> Option<usize>
-        ensures { IfSome result (λ m. Held y m self.new site.entry) }
-    {
-        let mut m = 0;
-        for k in 0..site.near.len() / 4 {
-            if m >= 32 {
+// The obstacles beside a row at the height y, at the front of `room`, and how many they are, where they fit. The room is an
+// array, for the reason that `LevelRoom` gives.
+pub fn find_beside(y: f64, site: Site, room: &mut [Rectangle]) -> Option<usize>
+    ensures { IfSome result (λ m. (m ≤ length room.new) × BesideOf y (take m room.new) site.entry) }
+{
+    let mut m = 0;
+    for rect in site.near {
+        if abreast(y, *rect, site.margin) {
+            if m >= room.len() {
                 return None;
             }
-            let rect = obstacle(site.near, k);
-            let kept = abreast(y, rect, site.margin);
-            m = put_if(kept, rect, &mut self.pillars, m);
+            room[m] = *rect;
+            m += 1;
         }
-        Some(m)
     }
-
-    // Finds the obstacles beside a row at the height y.
-    pub fn find(&mut self, y: f64, site: Site)
-        ensures { BesideOf y self.new site.entry }
-    {
-        self.count = self.put(y, site);
-    }
-
-    // Whether a place of the row keeps the margin to every obstacle.
-    pub fn clears(&self, p: Point, site: Site) -> bool
-        requires { BesideOf p.y self.now site }
-        ensures { result ≡ clear_of_obstacles p.x p.y (rectangles site.entry.near.now) site.entry.margin.least }
-    {
-        let Some(m) = self.count else {
-            return clears_obstacles(p.x, p.y, site.near, site.margin);
-        };
-        let e = m * 4;
-        let held = &self.pillars[..];
-        clears_obstacles(p.x, p.y, &held[..e], site.margin)
-    }
+    Some(m)
 }

@@ -4,7 +4,8 @@ ghost use Rattle.lattice.specs.Context.{inset, spacing};
 
 use glyphs::mode::PackMode;
 
-// What a packer packs at: the radius, the gaps as parts of it, and the mode.
+// What a packer packs at: the radius, the gaps as parts of it, and the mode. The source's has the obstacles, too: here the
+// definitions compute with this struct, and a lent slice would bring a reference into each.
 #[derive(Clone, Copy)]
 pub struct PackCtx {
     pub r: f64,
@@ -29,7 +30,7 @@ impl PackCtx {
     }
 }
 
-// The lattice's spacing, and whether its rows are aligned.
+// The lattice's spacing, and whether its rows are aligned: data that a row's height and offset follow from.
 #[derive(Clone, Copy)]
 pub struct Lattice {
     pub spacing: f64,

@@ -1,5 +1,5 @@
 // regions.rs, `point_in_polygon` for many points of one height: where the height crosses each ring is found once.
-ghost use Rattle.std.specs.Prelude.{◌≡◌, ◌/◌, ◌<◌, ◌≤◌, ◌++◌, length, take, IfSome, OnSome};
+ghost use Rattle.std.specs.Prelude.{◌≡◌, ◌/◌, ◌<◌, ◌≤◌, ◌++◌, length, take, IfSome};
 ghost use Rattle.lattice.specs.Crossings.{crossing, edge_crossing, crossings_of, odd, inside_level, Ends, Crossed};
 
 use glyphs::points::{vx, vy};
@@ -12,7 +12,8 @@ fn crossing(y: f64, xi: f64, yi: f64, xj: f64, yj: f64) -> f64
     (xj - xi) * (y - yi) / (yj - yi + 2.220446049250313e-16) + xi
 }
 
-// Puts the crossing of an edge behind the `c` that there are, and answers how many there are then, where it fits.
+// Puts the crossing of an edge behind the `c` that there are, and answers how many there are then, where it fits. They are
+// the front of an array, for the reason that `LevelRoom` gives.
 fn put_crossing(
     y: f64,
     v: &[f64],
@@ -22,7 +23,7 @@ fn put_crossing(
     c: usize,
 ) -> Option<usize>
     requires { (i < length v.now / 2) × (j < length v.now / 2) × (c ≤ length crossings.old) }
-    ensures { IfSome result (λ n. (n ≤ length crossings.old) × (take n crossings.new ≡ take c crossings.old ++ edge_crossing y v.now i j)) }
+    ensures { IfSome result (λ n. (n ≤ length crossings.new) × (take n crossings.new ≡ take c crossings.old ++ edge_crossing y v.now i j)) }
 {
     let yi = vy(v, i);
     let yj = vy(v, j);
@@ -41,7 +42,7 @@ fn put_crossing(
 // Puts the crossings of a ring behind those that there are.
 fn put_ring(y: f64, v: &[f64], crossings: &mut [f64], start: usize) -> Option<usize>
     requires { start ≤ length crossings.old }
-    ensures { IfSome result (λ n. (n ≤ length crossings.old) × (take n crossings.new ≡ take start crossings.old ++ crossings_of y v.now)) }
+    ensures { IfSome result (λ n. (n ≤ length crossings.new) × (take n crossings.new ≡ take start crossings.old ++ crossings_of y v.now)) }
 {
     let n = v.len() / 2;
     if n < 3 {
@@ -57,26 +58,27 @@ fn put_ring(y: f64, v: &[f64], crossings: &mut [f64], start: usize) -> Option<us
 }
 
 // Finds where the height y crosses the rings: the crossings ring after ring, and how many there are up to the end of
-// each ring. It answers nothing where they do not fit.
+// each ring. It answers how many crossings and ends they are, where they fit.
 pub fn near_crossings(
     y: f64,
     piece: RegionPiece,
-    crossings: &mut [f64; 32],
-    ends: &mut [usize; 16],
-) -> Option<()>
-    ensures { OnSome result (Crossed y piece.entry crossings.new ends.new) }
+    crossings: &mut [f64],
+    ends: &mut [usize],
+) -> Option<(usize, usize)>
+    ensures fit { IfSome result (λ found. (found.0 ≤ length crossings.new) × (found.1 ≤ length ends.new)) }
+    ensures crossed { IfSome result (λ found. Crossed y piece.entry (take found.0 crossings.new) (take found.1 ends.new)) }
 {
     let mut c = 0;
     let mut k = 0;
     for ring in piece.rings() {
-        if k >= 16 {
+        if k >= ends.len() {
             return None;
         }
         c = put_ring(y, ring, &mut crossings[..], c)?;
         ends[k] = c;
         k += 1;
     }
-    Some(())
+    Some((c, k))
 }
 
 // Whether x is left of an odd number of crossings.
@@ -91,18 +93,17 @@ fn odd(x: f64, crossings: &[f64]) -> bool
 }
 
 // Whether x is inside the outer ring and no hole.
-pub fn inside_level(x: f64, rings: usize, crossings: &[f64; 32], ends: &[usize; 16]) -> bool
-    requires { Ends rings ends.now }
-    ensures { result ≡ inside_level x rings crossings.now ends.now }
+pub fn inside_level(x: f64, crossings: &[f64], ends: &[usize]) -> bool
+    requires { Ends crossings.now ends.now }
+    ensures { result ≡ inside_level x crossings.now ends.now }
 {
-    let all = &crossings[..];
     let mut from = ends[0];
-    if !odd(x, &all[..from]) {
+    if !odd(x, &crossings[..from]) {
         return false;
     }
-    for k in 1..rings {
+    for k in 1..ends.len() {
         let to = ends[k];
-        if odd(x, &all[from..to]) {
+        if odd(x, &crossings[from..to]) {
             return false;
         }
         from = to;

@@ -1,5 +1,5 @@
 // The edges of a piece that lie near a height, found once for a row of cells, and the test of a place against them.
-ghost use Rattle.std.specs.Prelude.{◌≡◌, ◌/◌, ◌<◌, ◌≤◌, true, length, IfSome, take};
+ghost use Rattle.std.specs.Prelude.{◌≡◌, ◌/◌, ◌<◌, ◌≤◌, true, length, take, IfSome};
 ghost use Rattle.float.specs.Ops.{◌<ᶠ◌, 0ᶠ};
 ghost use Rattle.rounding.specs.Bounds.{Sized};
 ghost use Rattle.regions.specs.Pieces.{rings_of};
@@ -14,7 +14,7 @@ use regions::margin::Margin;
 use regions::ring::after;
 
 // The edge of a ring from one vertex to the next.
-#[derive(Clone, Copy)]
+#[derive(Clone, Copy, Default)]
 pub struct Edge {
     pub from: Point,
     pub to: Point,
@@ -89,10 +89,11 @@ fn edge_at(ring: &[f64], i: usize) -> Edge
     }
 }
 
-// Puts an edge behind the `m` of a list unless it is far, and answers how many there are then, where it fits.
+// Puts an edge behind the `m` of a list unless it is far, and answers how many there are then, where it fits. The list is
+// the front of an array, for the reason that `LevelRoom` gives.
 fn put_near(y: f64, reach: f64, edge: Edge, edges: &mut [Edge], m: usize) -> Option<usize>
     requires { m ≤ length edges.old }
-    ensures { IfSome result (λ n. (n ≤ length edges.new) × Added y reach edge m edges.old n edges.new) }
+    ensures { IfSome result (λ n. (n ≤ length edges.new) × Added y reach edge (take m edges.old) (take n edges.new)) }
 {
     if is_far(y, reach, edge) {
         return Some(m);
@@ -107,7 +108,7 @@ fn put_near(y: f64, reach: f64, edge: Edge, edges: &mut [Edge], m: usize) -> Opt
 // Puts the near edges of a ring behind the `start` of a list.
 fn put_ring(y: f64, reach: f64, ring: &[f64], edges: &mut [Edge], start: usize) -> Option<usize>
     requires { start ≤ length edges.old }
-    ensures { IfSome result (λ n. (n ≤ length edges.new) × AddedRing y reach ring.now start edges.old n edges.new) }
+    ensures { IfSome result (λ n. (n ≤ length edges.new) × AddedRing y reach ring.now (take start edges.old) (take n edges.new)) }
 {
     let n = ring.len() / 2;
     if n < 2 {
@@ -133,7 +134,8 @@ pub fn near_edges(y: f64, site: Site, edges: &mut [Edge]) -> Option<usize>
     Some(m)
 }
 
-// Whether the distance from a place to an edge is not below the margin's.
+// Whether the distance from a place to an edge is not below the margin's. NaN is below nothing, while
+// `root_at_least` refuses it.
 fn keeps_edge(p: Point, edge: Edge, margin: Margin) -> bool
     ensures { result ≡ keeps p.x p.y margin.least edge }
 {

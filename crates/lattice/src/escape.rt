@@ -3,12 +3,11 @@ ghost use Rattle.std.specs.Prelude.{◌≡◌, if◌then◌else◌};
 ghost use mathlib.Core.List.{foldl};
 ghost use Rattle.laws.specs.Orders.{◌then_by◌, is_lt};
 ghost use Rattle.float.specs.Total.{total_cmp};
-ghost use Rattle.glyphs.specs.Rect.{rectangles};
 ghost use Rattle.regions.specs.Pieces.{rings_of};
 ghost use Rattle.lattice.specs.Escape.{better, exits, consider, best_exit, escape_obstacles};
 
 use crate::nearest::squared_distance;
-use glyphs::rect::{Point, Rectangle, clear_of_obstacles, obstacle};
+use glyphs::rect::{Point, Rectangle, clear_of_obstacles};
 use regions::clearance::signed_clearance;
 use regions::piece::RegionPiece;
 
@@ -24,12 +23,13 @@ pub struct Exit {
 struct Blocked<'a> {
     anchor: Point,
     piece: RegionPiece<'a>,
-    near: &'a [f64],
+    near: &'a [Rectangle],
     clearance: f64,
 }
 
 // Whether an exit comes before another: by squared distance, then x, then y. Keys are worked out one after another, as
-// mostly the first decides: a tuple of them would need all.
+// mostly the first decides: a tuple of them would need all. NaN has its place in the total order, which no derived order
+// gives it.
 fn nearer(exit: Exit, best: Exit) -> bool
     ensures { result ≡ is_lt (total_cmp exit.square best.square then_by total_cmp exit.place.x best.place.x then_by total_cmp exit.place.y best.place.y) }
 {
@@ -61,7 +61,7 @@ fn nearest(best: Option<Exit>, exit: Exit) -> Option<Exit>
 impl Blocked<'_> {
     // The nearer of what is found so far and an exit, where the exit clears obstacles and rings.
     fn consider(self, best: Option<Exit>, p: Point) -> Option<Exit>
-        ensures { result ≡ consider self.entry.anchor (rings_of self.entry.piece) (rectangles self.entry.near.now) self.entry.clearance best p }
+        ensures { result ≡ consider self.entry.anchor (rings_of self.entry.piece) self.entry.near.now self.entry.clearance best p }
     {
         if !clear_of_obstacles(p.x, p.y, self.near, self.clearance) {
             return best;
@@ -75,7 +75,8 @@ impl Blocked<'_> {
 
     // The four exits of an obstacle.
     fn consider_exits(self, pad: f64, best: Option<Exit>, rect: Rectangle) -> Option<Exit>
-        ensures { result ≡ foldl (consider self.entry.anchor (rings_of self.entry.piece) (rectangles self.entry.near.now) self.entry.clearance) best (exits self.entry.anchor pad rect) }
+        ensures { result ≡ foldl (consider self.entry.anchor (rings_of self.entry.piece) self.entry.near.now self.entry.clearance) best
+            (exits self.entry.anchor pad rect) }
     {
         let half_w = 0.5 * rect.width + pad;
         let half_h = 0.5 * rect.height + pad;
@@ -95,21 +96,25 @@ impl Blocked<'_> {
 
     // The nearest exit of all obstacles.
     fn best_exit(self) -> Option<Exit>
-        ensures { result ≡ best_exit self.entry.anchor (rings_of self.entry.piece) (rectangles self.entry.near.now) self.entry.clearance }
+        ensures { result ≡ best_exit self.entry.anchor (rings_of self.entry.piece) self.entry.near.now self.entry.clearance }
     {
         let pad = self.clearance * (1.0 + 0.000000001);
-        let n = self.near.len() / 4;
         let mut best = None;
-        for k in 0..n {
-            best = self.consider_exits(pad, best, obstacle(self.near, k));
+        for rect in self.near {
+            best = self.consider_exits(pad, best, *rect);
         }
         best
     }
 }
 
 // A blocked anchor moved to the nearest exit, and any other as it is.
-pub fn escape_obstacles(anchor: Point, piece: RegionPiece, near: &[f64], clearance: f64) -> Point
-    ensures { result ≡ escape_obstacles anchor (rings_of piece.entry) (rectangles near.now) clearance }
+pub fn escape_obstacles(
+    anchor: Point,
+    piece: RegionPiece,
+    near: &[Rectangle],
+    clearance: f64,
+) -> Point
+    ensures { result ≡ escape_obstacles anchor (rings_of piece.entry) near.now clearance }
 {
     if clear_of_obstacles(anchor.x, anchor.y, near, clearance) {
         return anchor;

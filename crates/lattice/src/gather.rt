@@ -2,13 +2,12 @@
 // the anchor, in order. The walk is that of count.rt, which stops at a number of free cells, while this one puts a run
 // of free cells among the others after each row: so each has a loop of its own over a row's cells.
 ghost use Rattle.std.specs.Prelude.{◌≡◌, ◌*◌, ◌≤◌, length};
-ghost use Rattle.glyphs.specs.Rect.{rectangles};
-ghost use Rattle.regions.specs.Pieces.{rings_of};
 ghost use Rattle.lattice.specs.Found.{Found};
 ghost use Rattle.lattice.specs.Gather.{kept, gather_cell, gather};
 ghost use Rattle.lattice.specs.Gathered.{held_by, gathered_by, IsReady, IsWaiting, HoldsNow, GathersNow};
 ghost use Rattle.lattice.specs.Held.{Holds};
 ghost use Rattle.lattice.specs.Lattice.{never};
+ghost use Rattle.lattice.specs.Site.{in_site};
 ghost use Rattle.lattice.specs.Tally.{cells_of};
 ghost use Rattle.lattice.specs.Walk.{cells_in};
 
@@ -17,7 +16,7 @@ use crate::nearest::{keep, merge_run};
 use crate::row::Row;
 use crate::rows::Field;
 use crate::site::Site;
-use crate::tables::Tables;
+use crate::tables::{Nearby, Tables};
 use crate::waiting::{Free, wait};
 use crate::walk::Rows;
 use glyphs::rect::Point;
@@ -48,16 +47,18 @@ pub struct Gathering<'a> {
 
 impl Gathering<'_> {
     // One more cell, with what was found for its row.
-    fn gather_cell(&mut self, p: Point, wanted: Wanted, site: Site, tables: &Tables)
-        requires { Found p.y tables.now site × IsWaiting wanted self.old }
+    fn gather_cell(&mut self, p: Point, wanted: Wanted, nearby: &Nearby)
+        requires { Found p.y nearby.now × IsWaiting wanted self.old }
         ensures same_free { self.new.free.ghost_name ≡ self.old.free.ghost_name }
         ensures same_blocked { self.new.blocked.ghost_name ≡ self.old.blocked.ghost_name }
-        ensures cells { GathersNow wanted (gather_cell (rings_of site.entry.piece) site.entry.margin.least (rectangles site.entry.near.now) wanted.anchor wanted.free wanted.blocked (gathered_by wanted self.old) p) self.old self.new }
+        ensures cells { GathersNow wanted
+            (in_site gather_cell nearby.now.site wanted.anchor wanted.free wanted.blocked (gathered_by wanted self.old) p)
+            self.old self.new }
     {
-        if !tables.level.clears(p, site) {
+        if !nearby.clears_rings(p) {
             return;
         }
-        if tables.beside.clears(p, site) {
+        if nearby.clears_pillars(p) {
             self.t.free = wait(
                 p,
                 wanted.anchor,
@@ -82,15 +83,15 @@ impl Gathering<'_> {
         requires { IsReady wanted self.old }
         ensures same_free { self.new.free.ghost_name ≡ self.old.free.ghost_name }
         ensures same_blocked { self.new.blocked.ghost_name ≡ self.old.blocked.ghost_name }
-        ensures cells { HoldsNow (gather (rings_of site.entry.piece) site.entry.margin.least (rectangles site.entry.near.now) wanted.anchor wanted.free wanted.blocked (held_by self.old) (cells_in row)) self.old self.new }
+        ensures cells { HoldsNow (in_site gather site.entry wanted.anchor wanted.free wanted.blocked (held_by self.old) (cells_in row)) self.old self.new }
     {
         if row.count == 0 {
             return;
         }
-        tables.find(row.y, site);
+        let nearby = tables.find(row.y, site);
         self.t.free.waiting = 0;
         for k in 0..row.count {
-            self.gather_cell(row.cell(k), wanted, site, tables);
+            self.gather_cell(row.cell(k), wanted, &nearby);
         }
         let free = self.t.free;
         self.t.free.kept = merge_run(
@@ -114,7 +115,7 @@ pub fn gather_cells(
     blocked: &mut [f64],
 ) -> Counts
     requires { (nf * 2 ≤ length free.old) × (nb * 2 ≤ length blocked.old) }
-    ensures { Holds (kept field.anchor nf nb (cells_of field (rings_of site.entry.piece) site.entry.margin.least (rectangles site.entry.near.now) never)) result free.new blocked.new free.old blocked.old }
+    ensures { Holds (kept field.anchor nf nb (in_site (cells_of field) site.entry never)) result free.new blocked.new free.old blocked.old }
 {
     let wanted = Wanted {
         anchor: field.anchor,
@@ -134,7 +135,7 @@ pub fn gather_cells(
             blocked: 0,
         },
     };
-    let mut tables = Tables::new();
+    let mut tables = Tables::default();
     for row in Rows::of(field) {
         gathering.gather_row(row, wanted, site, &mut tables);
     }

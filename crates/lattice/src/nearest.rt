@@ -1,17 +1,18 @@
 // discs.rs, `sort_by_anchor`: the cells nearest to an anchor, kept in order in a slice of their x and y in turn.
-ghost use Rattle.std.specs.Prelude.{◌≡◌, suc, ◌+◌, ◌*◌, ◌<◌, ◌≤◌, min, length, take, slice_set};
+ghost use Rattle.std.specs.Prelude.{◌≡◌, suc, ◌+◌, ◌*◌, ◌<◌, ◌≤◌, min, length, take};
 ghost use Rattle.laws.specs.Bounded.{insert_behind, lead};
 ghost use Rattle.laws.specs.Lists.{written};
 ghost use Rattle.laws.specs.Orders.{is_lt};
 ghost use Rattle.laws.specs.Sorted.{Ascending};
 ghost use Rattle.lattice.specs.Escape.{squared_distance};
 ghost use Rattle.glyphs.specs.Spots.{flat};
-ghost use Rattle.lattice.specs.Flat.{points, point_at, moved};
+ghost use Rattle.lattice.specs.Flat.{points, moved};
 ghost use Rattle.lattice.specs.Lattice.{by_anchor};
 ghost use Rattle.lattice.specs.Merge.{inserted};
 ghost use Rattle.lattice.specs.Run.{before_last, put_below};
 
 use glyphs::rect::Point;
+use glyphs::spots::{put_spot, spot};
 
 pub fn squared_distance(a: Point, b: Point) -> f64
     ensures { result ≡ squared_distance a b }
@@ -20,7 +21,7 @@ pub fn squared_distance(a: Point, b: Point) -> f64
 }
 
 // Whether `a` comes before `b`: by squared distance, then y, then x. Keys are worked out one after another, as mostly the
-// first decides: a tuple of them would need all.
+// first decides: a tuple of them would need all. NaN has its place in the total order, which no derived order gives it.
 fn precedes(anchor: Point, a: Point, b: Point) -> bool
     ensures { result ≡ is_lt (by_anchor anchor a b) }
 {
@@ -37,18 +38,6 @@ fn precedes(anchor: Point, a: Point, b: Point) -> bool
     float::total_less(a.x, b.x)
 }
 
-// The cell `k` of a slice.
-fn cell(cells: &[f64], k: usize) -> Point
-    requires { k * 2 + 1 < length cells.now }
-    ensures { result ≡ point_at cells.now k }
-{
-    let a = k * 2;
-    Point {
-        x: cells[a],
-        y: cells[a + 1],
-    }
-}
-
 // How many of the first `m` cells, which are in order, `p` is not before. C lends the cells as floats, so no search of
 // the library's finds one.
 fn place(cells: &[f64], m: usize, anchor: Point, p: Point) -> usize
@@ -59,7 +48,7 @@ fn place(cells: &[f64], m: usize, anchor: Point, p: Point) -> usize
     let mut high = m;
     while low < high {
         let mid = low + (high - low) / 2;
-        if precedes(anchor, p, cell(cells, mid)) {
+        if precedes(anchor, p, spot(cells, mid)) {
             high = mid;
         } else {
             low = mid + 1;
@@ -77,16 +66,8 @@ fn make_room(cells: &mut [f64], k: usize, e: usize)
     cells.copy_within(a..e * 2, a + 2);
 }
 
-fn put(cells: &mut [f64], k: usize, p: Point)
-    requires { k * 2 + 1 < length cells.old }
-    ensures { cells.new ≡ slice_set (slice_set cells.old (k * 2) p.x) (k * 2 + 1) p.y }
-{
-    let a = k * 2;
-    cells[a] = p.x;
-    cells[a + 1] = p.y;
-}
-
-// Puts `p` among the `m` cells; of `cap` and one more the last is dropped. Answers how many there are then.
+// Puts `p` among the `m` cells; of `cap` and one more the last is dropped. Answers how many there are then: the slice is
+// lent, and has no count of its own.
 pub fn keep(cells: &mut [f64], m: usize, cap: usize, anchor: Point, p: Point) -> usize
     requires { (m ≤ cap) × (cap * 2 ≤ length cells.old) × Ascending (by_anchor anchor) (points m cells.old) }
     ensures { (result ≡ min (suc m) cap) × (cells.new ≡ written (flat (take cap (insert_behind (by_anchor anchor) p (points m cells.old)))) cells.old) }
@@ -95,7 +76,7 @@ pub fn keep(cells: &mut [f64], m: usize, cap: usize, anchor: Point, p: Point) ->
     if k < cap {
         let e = m.min(cap - 1);
         make_room(&mut cells[..], k, e);
-        put(&mut cells[..], k, p);
+        put_spot(&mut cells[..], k, p);
         return e + 1;
     }
     m
@@ -109,7 +90,7 @@ fn is_before_last(cells: &[f64], i: usize, anchor: Point, p: Point) -> bool
     if i == 0 {
         return false;
     }
-    precedes(anchor, p, cell(cells, i - 1))
+    precedes(anchor, p, spot(cells, i - 1))
 }
 
 // Puts `p` at the place `e`, where that is below `cap`.
@@ -118,12 +99,12 @@ fn put_below(cells: &mut [f64], cap: usize, e: usize, p: Point)
     ensures { cells.new ≡ put_below cap cells.old e p }
 {
     if e < cap {
-        put(&mut cells[..], e, p);
+        put_spot(&mut cells[..], e, p);
     }
 }
 
 // Puts a run of `k` cells in order among the `m` cells, from the last: so only those behind the run's first move.
-// What is past `cap` is dropped. Answers how many there are then.
+// What is past `cap` is dropped. Answers how many there are then, as `keep` does.
 pub fn merge_run(
     cells: &mut [f64],
     m: usize,
@@ -132,15 +113,18 @@ pub fn merge_run(
     run: &[f64],
     k: usize,
 ) -> usize
-    requires { (m ≤ cap) × (cap * 2 ≤ length cells.old) × (k * 2 ≤ length run.now) × Ascending (by_anchor anchor) (points m cells.old) × Ascending (by_anchor anchor) (points k run.now) }
-    ensures { (result ≡ min (m + k) cap) × (cells.new ≡ written (flat (take cap (inserted (by_anchor anchor) (points m cells.old) (points k run.now)))) cells.old) }
+    requires { (m ≤ cap) × (cap * 2 ≤ length cells.old) × (k * 2 ≤ length run.now)
+        × Ascending (by_anchor anchor) (points m cells.old)
+        × Ascending (by_anchor anchor) (points k run.now) }
+    ensures { (result ≡ min (m + k) cap)
+        × (cells.new ≡ written (flat (take cap (inserted (by_anchor anchor) (points m cells.old) (points k run.now)))) cells.old) }
 {
     let mut i = m;
     for j in (0..k).rev() {
-        let p = cell(run, j);
+        let p = spot(run, j);
         while is_before_last(&cells[..], i, anchor, p) {
             i -= 1;
-            let q = cell(&cells[..], i);
+            let q = spot(&cells[..], i);
             put_below(&mut cells[..], cap, i + j + 1, q);
         }
         put_below(&mut cells[..], cap, i + j, p);

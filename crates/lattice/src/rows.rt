@@ -1,8 +1,8 @@
 // discs.rs, `lattice_valid_cells`: the rows of a lattice.
-ghost use Rattle.std.specs.Prelude.{◌≡◌, ◌≤◌};
+ghost use Rattle.std.specs.Prelude.{◌≡◌, ◌≤◌, min};
 ghost use Rattle.lattice.specs.Lattice.{row_height, row_offset};
 ghost use Rattle.lattice.specs.Span.{of_rank};
-ghost use Rattle.lattice.specs.Rows.{row_of};
+ghost use Rattle.lattice.specs.Rows.{row_x, row_y, first_cell, width, row_of};
 ghost use Rattle.lattice.specs.Walk.{cells_in};
 
 use crate::context::Lattice;
@@ -43,6 +43,11 @@ fn row_offset(lattice: Lattice, u: u64) -> f64
 
 // The row of a rank, where rows are `row_h` apart, but at most `left` cells of it.
 pub fn row_at(field: Field, row_h: f64, u: u64, left: usize) -> Row
+    ensures x { result.x ≡ row_x field row_h u }
+    ensures y { result.y ≡ row_y field row_h u }
+    ensures spacing { result.spacing ≡ field.lattice.spacing }
+    ensures first { result.first ≡ first_cell field row_h u }
+    ensures count { result.count ≡ min (width field row_h u) left }
     ensures cells { cells_in result ≡ row_of field row_h u left }
     ensures few { result.count ≤ left }
 {

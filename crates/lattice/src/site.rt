@@ -1,4 +1,5 @@
 // discs.rs, `lattice_valid_cells`: what the places of a lattice are judged by.
+use glyphs::rect::Rectangle;
 use regions::margin::Margin;
 use regions::piece::RegionPiece;
 
@@ -7,5 +8,5 @@ use regions::piece::RegionPiece;
 pub struct Site<'a> {
     pub piece: RegionPiece<'a>,
     pub margin: Margin,
-    pub near: &'a [f64],
+    pub near: &'a [Rectangle],
 }

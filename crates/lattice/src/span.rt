@@ -38,7 +38,8 @@ pub fn number(u: u64) -> f64
     std::num::nearest_i64_to_f64(signed(u))
 }
 
-// How many numbers there are from `first` through `last`, and at most `left`.
+// How many numbers there are from `first` through `last`, and at most `left`. All 2^64 of them are one more than a `u64`
+// has, so `left` is asked before one is added.
 pub fn many(first: u64, last: u64, left: usize) -> usize
     ensures { result ≡ min (suc last - first) left }
 {

@@ -1,17 +1,16 @@
 // discs.rs, `pack_uniform_piece`: the spacing widened, and the cells taken, once the lattice is anchored.
 ghost use Rattle.std.specs.Prelude.{◌≡◌, ◌+◌, ◌*◌, ◌<◌, ◌≤◌, length, if◌then◌else◌, nat_le};
 ghost use Rattle.std.proofs.Math.Seq.{paste};
-ghost use Rattle.laws.specs.Lists.{written};
-ghost use Rattle.glyphs.specs.Rect.{rectangles};
-ghost use Rattle.regions.specs.Pieces.{rings_of};
-ghost use Rattle.glyphs.specs.Spots.{flat};
+ghost use Rattle.lattice.specs.Flat.{Puts};
+ghost use Rattle.lattice.specs.Site.{in_site};
 ghost use Rattle.lattice.specs.Spread.{with_spacing, field_fits, field_widen, field_spacing, field_take, field_pack};
 
 use crate::context::Lattice;
-use crate::count::{Counts, count_cells};
+use crate::count::{Counts, count_with};
 use crate::gather::gather_cells;
 use crate::rows::Field;
 use crate::site::Site;
+use crate::tables::Tables;
 
 fn at_spacing(field: Field, s: f64) -> Field
     ensures { result ≡ with_spacing field s }
@@ -40,7 +39,7 @@ fn is_enough(honoring: bool, t: Counts, n: usize) -> bool
     t.blocked >= n - free
 }
 
-// Copies the first `m` of `cells` behind the first `at` spots.
+// Copies the first `m` of `cells` behind the first `at` spots. C lends both as floats, so the numbers stand beside them.
 fn append(spots: &mut [f64], at: usize, cells: &[f64], m: usize)
     requires { ((at + m) * 2 ≤ length spots.old) × (m * 2 ≤ length cells.now) }
     ensures { spots.new ≡ paste spots.old (at * 2) cells.now (m * 2) }
@@ -50,6 +49,7 @@ fn append(spots: &mut [f64], at: usize, cells: &[f64], m: usize)
     spots[a..a + e].copy_from_slice(&cells[..e]);
 }
 
+// How many blocked cells are wanted where `n` cells are: none by a packing that is honoring its obstacles.
 fn none_if(honoring: bool, n: usize) -> usize
     ensures { result ≡ (if honoring then 0 else n) }
 {
@@ -59,7 +59,8 @@ fn none_if(honoring: bool, n: usize) -> usize
     n
 }
 
-// A packing of a lattice's cells: how many are wanted, and whether it is honoring its obstacles.
+// A packing of a lattice's cells: how many are wanted, and whether it is honoring its obstacles, which is data: it says
+// which cells count.
 #[derive(Clone, Copy)]
 struct Packing<'a> {
     field: Field,
@@ -71,17 +72,17 @@ struct Packing<'a> {
 
 impl Packing<'_> {
     // Whether the cells that are wanted are there at a spacing.
-    fn fits_at(self, s: f64) -> bool
-        ensures { result ≡ field_fits (rings_of self.entry.site.piece) self.entry.site.margin.least (rectangles self.entry.site.near.now) self.entry.n self.entry.field self.entry.honoring s }
+    fn fits_at(self, s: f64, tables: &mut Tables) -> bool
+        ensures { result ≡ in_site field_fits self.entry.site self.entry.n self.entry.field self.entry.honoring s }
     {
         let widened = at_spacing(self.field, s);
-        let t = count_cells(widened, self.site, self.n);
+        let t = count_with(widened, self.site, self.n, tables);
         is_enough(self.honoring, t, self.n)
     }
 
     // Of two spacings, at the lower of which the cells are there, the largest found between them, in at most 24 halvings.
-    fn widen(self, s_max: f64, low: f64, high: f64) -> f64
-        ensures { result ≡ field_widen (rings_of self.entry.site.piece) self.entry.site.margin.least (rectangles self.entry.site.near.now) self.entry.n self.entry.field self.entry.honoring s_max 24 low high }
+    fn widen(self, s_max: f64, low: f64, high: f64, tables: &mut Tables) -> f64
+        ensures { result ≡ in_site field_widen self.entry.site self.entry.n self.entry.field self.entry.honoring s_max 24 low high }
     {
         let mut lo = low;
         let mut hi = high;
@@ -90,7 +91,7 @@ impl Packing<'_> {
                 return lo;
             }
             let mid = 0.5 * (lo + hi);
-            if self.fits_at(mid) {
+            if self.fits_at(mid, tables) {
                 lo = mid;
             } else {
                 hi = mid;
@@ -100,23 +101,23 @@ impl Packing<'_> {
     }
 
     // The spacing widened to the largest found at which the cells are there.
-    fn spread_spacing(self) -> f64
-        ensures { result ≡ field_spacing (rings_of self.entry.site.piece) self.entry.site.margin.least (rectangles self.entry.site.near.now) self.entry.n self.entry.field self.entry.honoring }
+    fn spread_spacing(self, tables: &mut Tables) -> f64
+        ensures { result ≡ in_site field_spacing self.entry.site self.entry.n self.entry.field self.entry.honoring }
     {
         let e = self.field.extents;
         let s_min = self.field.lattice.spacing;
         let s_max = float::hypot(e.max_x - e.min_x, e.max_y - e.min_y);
         let hi = float::max(s_max, s_min);
-        if self.fits_at(hi) {
+        if self.fits_at(hi, tables) {
             return hi;
         }
-        self.widen(s_max, s_min, hi)
+        self.widen(s_max, s_min, hi, tables)
     }
 
     // The wanted cells nearest to the anchor: free ones first, then, where it is not honoring its obstacles, blocked ones.
     fn take_cells(self, blocked: &mut [f64], spots: &mut [f64]) -> usize
         requires { (self.n * 2 ≤ length blocked.old) × (self.n * 2 ≤ length spots.old) }
-        ensures { (result ≡ length (field_take (rings_of self.entry.site.piece) self.entry.site.margin.least (rectangles self.entry.site.near.now) self.entry.n self.entry.field self.entry.honoring)) × (spots.new ≡ written (flat (field_take (rings_of self.entry.site.piece) self.entry.site.margin.least (rectangles self.entry.site.near.now) self.entry.n self.entry.field self.entry.honoring)) spots.old) }
+        ensures { Puts (in_site field_take self.entry.site self.entry.n self.entry.field self.entry.honoring) result spots.new spots.old }
     {
         let n = self.n;
         let nb = none_if(self.honoring, n);
@@ -134,7 +135,8 @@ impl Packing<'_> {
     }
 }
 
-// The spots of a field's lattice: at the least spacing where `n` cells are not there, else widened.
+// The spots of a field's lattice: at the least spacing where `n` cells are not there, else widened. `strict` is the mode's,
+// and says whether blocked cells may be taken at all.
 pub fn pack_field(
     field: Field,
     site: Site,
@@ -144,9 +146,10 @@ pub fn pack_field(
     spots: &mut [f64],
 ) -> usize
     requires { (0 < n) × (n * 2 ≤ length blocked.old) × (n * 2 ≤ length spots.old) }
-    ensures { (result ≡ length (field_pack (rings_of site.entry.piece) site.entry.margin.least (rectangles site.entry.near.now) n field strict)) × (spots.new ≡ written (flat (field_pack (rings_of site.entry.piece) site.entry.margin.least (rectangles site.entry.near.now) n field strict)) spots.old) }
+    ensures { Puts (in_site field_pack site.entry n field strict) result spots.new spots.old }
 {
-    let at_min = count_cells(field, site, n);
+    let mut tables = Tables::default();
+    let at_min = count_with(field, site, n, &mut tables);
     let honoring = at_min.free >= n;
     if !honoring & strict {
         let strictly = Packing {
@@ -167,7 +170,7 @@ pub fn pack_field(
         return least.take_cells(&mut blocked[..], &mut spots[..]);
     }
     let widest = Packing {
-        field: at_spacing(field, least.spread_spacing()),
+        field: at_spacing(field, least.spread_spacing(&mut tables)),
         site,
         n,
         honoring,

@@ -1,13 +1,11 @@
 // discs.rs, `pack_uniform_piece`: the lattice packer for one piece, whose deepest point is given.
 ghost use Rattle.std.specs.Prelude.{◌≡◌, ◌*◌, ◌<◌, ◌≤◌, true, false, length};
-ghost use Rattle.laws.specs.Lists.{written};
 ghost use Rattle.glyphs.specs.Bounds.{ring_bounds};
-ghost use Rattle.glyphs.specs.Rect.{rectangles};
 ghost use Rattle.regions.specs.Ring.{outer};
 ghost use Rattle.regions.specs.Pieces.{rings_of};
 ghost use Rattle.lattice.specs.Around.{field_at, near_of};
 ghost use Rattle.lattice.specs.Context.{inset};
-ghost use Rattle.glyphs.specs.Spots.{flat};
+ghost use Rattle.lattice.specs.Flat.{Puts};
 ghost use Rattle.lattice.specs.Uniform.{anchor_of, pack_around};
 
 use crate::context::{Lattice, PackCtx};
@@ -18,7 +16,7 @@ use crate::rows::Field;
 use crate::site::Site;
 use crate::spread::pack_field;
 use glyphs::bounds::{Extents, ring_bounds};
-use glyphs::rect::Point;
+use glyphs::rect::{Point, Rectangle};
 use regions::margin::Margin;
 use regions::piece::RegionPiece;
 
@@ -31,9 +29,9 @@ pub fn piece_bounds(piece: RegionPiece) -> Option<Extents>
 
 // The deepest point, moved off the obstacles near its piece.
 fn anchor_of(poi: Point, site: Site) -> Point
-    ensures { result ≡ anchor_of poi (rings_of site.entry.piece) (rectangles site.entry.near.now) site.entry.margin.least }
+    ensures { result ≡ anchor_of poi (rings_of site.entry.piece) site.entry.near.now site.entry.margin.least }
 {
-    if site.near.len() / 4 == 0 {
+    if site.near.is_empty() {
         return poi;
     }
     escape_obstacles(poi, site.piece, site.near, site.margin.least)
@@ -42,7 +40,7 @@ fn anchor_of(poi: Point, site: Site) -> Point
 // The lattice about a deepest point.
 fn field_at(poi: Point, site: Site, ctx: PackCtx, rectangular: bool, extents: Extents) -> Field
     requires { site.margin.least ≡ inset ctx }
-    ensures { result ≡ field_at poi (rings_of site.entry.piece) ctx (rectangles site.entry.near.now) rectangular extents }
+    ensures { result ≡ field_at poi (rings_of site.entry.piece) ctx site.entry.near.now rectangular extents }
 {
     Field {
         anchor: anchor_of(poi, site),
@@ -58,37 +56,39 @@ fn field_at(poi: Point, site: Site, ctx: PackCtx, rectangular: bool, extents: Ex
 fn site_of<'a>(
     piece: RegionPiece<'a>,
     ctx: PackCtx,
-    obstacles: &[f64],
+    obstacles: &[Rectangle],
     extents: Extents,
-    near: &'a mut [f64],
+    near: &'a mut [Rectangle],
 ) -> Site<'a>
     requires { length obstacles.now ≤ length near.old }
     ensures rings { rings_of result.piece ≡ rings_of piece.entry }
     ensures least { result.margin.least ≡ inset ctx }
-    ensures near { rectangles result.near.now ≡ near_of ctx (rectangles obstacles.now) extents }
+    ensures near { result.near.now ≡ near_of ctx obstacles.now extents }
 {
     let inset = ctx.inset();
+    let m = near_obstacles(obstacles, inset, extents, &mut near[..]);
     Site {
         piece,
         margin: Margin::of(inset),
-        near: near_obstacles(obstacles, inset, extents, near),
+        near: &near[..m],
     }
 }
 
-// Writes the spots of a piece whose deepest point is `poi` to the front of `spots` and answers how many they are.
+// Writes the spots of a piece whose deepest point is `poi` to the front of `spots` and answers how many they are. The
+// parameters are the source's, and what is lent.
 pub fn pack_uniform_piece(
     poi: Point,
     piece: RegionPiece,
     n: usize,
     ctx: PackCtx,
-    obstacles: &[f64],
+    obstacles: &[Rectangle],
     rectangular: bool,
-    near: &mut [f64],
+    near: &mut [Rectangle],
     blocked: &mut [f64],
     spots: &mut [f64],
 ) -> usize
     requires { (0 < n) × (ctx.mode.spread ≡ true) × (length obstacles.now ≤ length near.old) × (n * 2 ≤ length blocked.old) × (n * 2 ≤ length spots.old) }
-    ensures { (result ≡ length (pack_around poi (rings_of piece.entry) n ctx (rectangles obstacles.now) rectangular)) × (spots.new ≡ written (flat (pack_around poi (rings_of piece.entry) n ctx (rectangles obstacles.now) rectangular)) spots.old) }
+    ensures { Puts (pack_around poi (rings_of piece.entry) n ctx obstacles.now rectangular) result spots.new spots.old }
 {
     let Some(extents) = piece_bounds(piece) else {
         return 0;
@@ -111,12 +111,12 @@ pub fn probe_uniform_piece(
     piece: RegionPiece,
     n: usize,
     ctx: PackCtx,
-    obstacles: &[f64],
+    obstacles: &[Rectangle],
     rectangular: bool,
-    near: &mut [f64],
+    near: &mut [Rectangle],
 ) -> usize
     requires { (0 < n) × (ctx.mode.spread ≡ false) × (ctx.mode.strict_obstacles ≡ true) × (length obstacles.now ≤ length near.old) }
-    ensures { result ≡ length (pack_around poi (rings_of piece.entry) n ctx (rectangles obstacles.now) rectangular) }
+    ensures { result ≡ length (pack_around poi (rings_of piece.entry) n ctx obstacles.now rectangular) }
 {
     let Some(extents) = piece_bounds(piece) else {
         return 0;

@@ -35,7 +35,9 @@ answered_is (Err refusal) plan e =
     let n = ap (λ (x : Answer). x.number) e in
     rw (planned_refused plan (λ z. numbered refusal (n ∙ z)), n)
 
-pub kept_is : (r : Result Given Refusal) (plan : Plan) (job sheet : List ℕ) → answer_in r ≡ answer_of plan → (plan.number ≡ 0 → SheetKept job sheet) → Kept (answered r) job sheet
+pub kept_is :
+    (r : Result Given Refusal) (plan : Plan) (job sheet : List ℕ) → answer_in r ≡ answer_of plan → (plan.number ≡ 0 → SheetKept job sheet)
+    → Kept (answered r) job sheet
 kept_is (Ok given) plan job sheet e h = h (sym (ap (λ (x : Answer). x.number) e))
 kept_is (Err refusal) plan job sheet e h = tt
 
@@ -59,7 +61,9 @@ plan_small s first second sheet = go (eqb n 0) refl (every_sheet_kept s first se
     plan : Bool → Plan
     plan t = cond t (given (placements_of (job_of s)) first second sheet) (refused n first second sheet)
 
-    go : (t : Bool) → eqb n 0 ≡ t → ((plan t).number ≡ 0 → SheetKept s (plan t).sheet) → Small (cond (eqb (plan t).number 0) (Sheet (plan t).length (plan t).free_trials (plan t).obstacle_trials) (Refused (plan t).number))
+    go :
+        (t : Bool) → eqb n 0 ≡ t → ((plan t).number ≡ 0 → SheetKept s (plan t).sheet)
+        → Small (cond (eqb (plan t).number 0) (Sheet (plan t).length (plan t).free_trials (plan t).obstacle_trials) (Refused (plan t).number))
     go true e k =
         let known = job_known s (faultless s first second sheet (eqb-true n 0 e)) in
         let few = few_trials (job_of s) in

@@ -61,5 +61,8 @@ cases =
     ∷ []
 
 pub right : map (λ (c : Case). c.asked) cases ≡ map (λ (c : Case). c.answer) cases
-unfolding root_of nearest_root floor_root fnv1a radical_inverse digits inverse_answer apportion total no_weight share whole_share remainder base rems assigned by_remainder order hand_out rem_euclid2 is_shifted up_to insert sort_by max floor total_key total_cmp Ieee.is_nan Ieee.le Ieee.eq Ieee.to_unsigned Ieee.to_bits Ieee.of_bits Ieee.of_fields Ieee.odd Ieee.climb Ieee.span Ieee.size Ieee.units Ieee.round Ieee.neg Ieee.sum Ieee.add Ieee.sub Ieee.mul Ieee.div Ieee.lt Ieee.of_int
+unfolding root_of nearest_root floor_root fnv1a radical_inverse digits inverse_answer apportion total no_weight share whole_share remainder base rems assigned
+    by_remainder order hand_out rem_euclid2 is_shifted up_to insert sort_by max floor total_key total_cmp Ieee.is_nan Ieee.le Ieee.eq Ieee.to_unsigned
+    Ieee.to_bits Ieee.of_bits Ieee.of_fields Ieee.odd Ieee.climb Ieee.span Ieee.size Ieee.units Ieee.round Ieee.neg Ieee.sum Ieee.add Ieee.sub Ieee.mul
+    Ieee.div Ieee.lt Ieee.of_int
 right = refl

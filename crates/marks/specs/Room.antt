@@ -23,14 +23,19 @@ use Rattle.claims.specs.Claim.{SheetKept, OwnPieces, Zones}
 use Rattle.claims.specs.HandOut.{sum, assigned_sum}
 
 module _ (options : GlyphOptions) (pillars : List Rectangle) (radius : Float) where
-  own_few : (pieces : List Piece) (quotas : List ℕ) (spots : List (List Point)) → OwnPieces options pillars radius pieces quotas spots → length (flatten spots) ≤ sum quotas
+  own_few :
+      (pieces : List Piece) (quotas : List ℕ) (spots : List (List Point)) → OwnPieces options pillars radius pieces quotas spots
+      → length (flatten spots) ≤ sum quotas
   unfolding flatten weigh
   own_few pieces quotas [] h = omega arith
   own_few [] quotas (spots ∷ later) h = absurd h
   own_few (piece ∷ pieces) [] (spots ∷ later) h = absurd h
-  own_few (piece ∷ pieces) (quota ∷ quotas) (spots ∷ later) h = rw (length-append spots (flatten later)) (omega (arith, h.0.within, own_few pieces quotas later h.1))
+  own_few (piece ∷ pieces) (quota ∷ quotas) (spots ∷ later) h =
+      rw (length-append spots (flatten later)) (omega (arith, h.0.within, own_few pieces quotas later h.1))
 
-  zones_short : (ps : List Placed) (entries : List Placement) → Zones options pillars radius ps entries → length (flat_map placement_bytes (map placement_of ps)) ≤ zones_room (map (λ (placed : Placed). placed.zone) ps)
+  zones_short :
+      (ps : List Placed) (entries : List Placement) → Zones options pillars radius ps entries
+      → length (flat_map placement_bytes (map placement_of ps)) ≤ zones_room (map (λ (placed : Placed). placed.zone) ps)
   unfolding flat_map placement_of zones_room
   zones_short [] [] h = omega arith
   zones_short [] (e ∷ es) h = absurd h
@@ -38,7 +43,15 @@ module _ (options : GlyphOptions) (pillars : List Rectangle) (radius : Float) wh
   zones_short (p ∷ ps) (e ∷ es) h =
       let z = p.zone in
       rw (length-append (placement_bytes (placement_of p)) (flat_map placement_bytes (map placement_of ps)))
-      (omega (arith, length_placement (placement_of p), length_flat (flatten p.spots), own_few z.pieces (quotas z) p.spots h.0.pieces, assigned_sum (quotas z), h.0.quotas_sum, zones_short ps es h.1))
+      (omega (
+        arith,
+        length_placement (placement_of p),
+        length_flat (flatten p.spots),
+        own_few z.pieces (quotas z) p.spots h.0.pieces,
+        assigned_sum (quotas z),
+        h.0.quotas_sum,
+        zones_short ps es h.1,
+      ))
 
 pub sheet_short : (s bytes : List ℕ) → SheetKept s bytes → length (sheet_of (sheet_for (placements_of (job_of s)))) ≤ sheet_room (job_of s)
 unfolding sheet_of sheet_for sheet_room
@@ -53,7 +66,9 @@ unfolding work_of zones_room marks_of
 zones_room_lem [] k = omega arith
 zones_room_lem (zone ∷ zones) k = go (is_left_in zone) (zones_room_lem zones k.1)
   where
-    go : (t : Bool) → zones_room (work_of zones) ≤ 37 * length zones + 16 * marks_of zones → zones_room (cond t (zone ∷ work_of zones) (work_of zones)) ≤ 37 * suc (length zones) + 16 * (zone.count + marks_of zones)
+    go :
+        (t : Bool) → zones_room (work_of zones) ≤ 37 * length zones + 16 * marks_of zones
+        → zones_room (cond t (zone ∷ work_of zones) (work_of zones)) ≤ 37 * suc (length zones) + 16 * (zone.count + marks_of zones)
     go true h = omega (arith, h, k.0.short)
     go false h = omega (arith, h)
 

@@ -28,9 +28,12 @@ module _ (fits : Float → Bool) (r-hi : Float) where
   halve_few zero lo hi best made = omega arith
   halve_few (suc turns) lo hi best made =
       let mid = ½ᶠ *ᶠ (lo +ᶠ hi) in
-      go (hi -ᶠ lo ≤ᶠ 1e-3ᶠ *ᶠ r-hi) (fits mid) (halve fits r-hi turns mid hi (Some mid) (made + 1)) (halve fits r-hi turns lo mid best (made + 1)) (halve_few turns mid hi (Some mid) (made + 1)) (halve_few turns lo mid best (made + 1))
+      go (hi -ᶠ lo ≤ᶠ 1e-3ᶠ *ᶠ r-hi) (fits mid) (halve fits r-hi turns mid hi (Some mid) (made + 1)) (halve fits r-hi turns lo mid best (made + 1))
+      (halve_few turns mid hi (Some mid) (made + 1)) (halve_few turns lo mid best (made + 1))
     where
-      go : (ended fit : Bool) (x y : Search) → x.trials ≤ made + 1 + turns → y.trials ≤ made + 1 + turns → (cond ended (record { best = best; trials = made }) (cond fit x y)).trials ≤ made + suc turns
+      go :
+          (ended fit : Bool) (x y : Search) → x.trials ≤ made + 1 + turns → y.trials ≤ made + 1 + turns
+          → (cond ended (record { best = best; trials = made }) (cond fit x y)).trials ≤ made + suc turns
       go true fit x y p q = omega arith
       go false true x y p q = omega (arith, p)
       go false false x y p q = omega (arith, q)
@@ -60,7 +63,11 @@ module _ (fits : List Rectangle → Float → Bool) (obstacles : List Rectangle)
   unfolding size_under
   under_few r-hi = go (eqb (length obstacles) 0) _ _
     where
-      go : (none : Bool) (r s : Float) → FewIn (Some (cond none (record { radius = r; free_trials = (auto_radius (fits []) r-hi).trials; obstacle_trials = 0 }) (record { radius = s; free_trials = (auto_radius (fits []) r-hi).trials; obstacle_trials = (auto_radius (fits obstacles) r-hi).trials })))
+      go :
+          (none : Bool) (r s : Float)
+          → FewIn (Some
+          (cond none (record { radius = r; free_trials = (auto_radius (fits []) r-hi).trials; obstacle_trials = 0 })
+          (record { radius = s; free_trials = (auto_radius (fits []) r-hi).trials; obstacle_trials = (auto_radius (fits obstacles) r-hi).trials })))
       go true r s = record { free = auto_few (fits []) r-hi; walled = omega arith }
       go false r s = record { free = auto_few (fits []) r-hi; walled = auto_few (fits obstacles) r-hi }
 
@@ -75,7 +82,9 @@ module _ (fits : List Rectangle → Float → Bool) (obstacles : List Rectangle)
   size_few Auto (Some r-hi) = under_few r-hi
 
 module _ (room : ℕ) (numbers : Spreading) (options : GlyphOptions) (given : List Rectangle) (zones : List Zone) where
-  pack_few : (size : Option Size) → FewIn size → Few (pack_at room numbers options given zones size).free_trials (pack_at room numbers options given zones size).obstacle_trials
+  pack_few :
+      (size : Option Size) → FewIn size
+      → Few (pack_at room numbers options given zones size).free_trials (pack_at room numbers options given zones size).obstacle_trials
   unfolding pack_at
   pack_few None h = no_trials
   pack_few (Some size) h = h
@@ -84,7 +93,9 @@ module _ (room : ℕ) (numbers : Spreading) (options : GlyphOptions) (given : Li
   unfolding place_glyphs sizing
   place_few = go (eqb (length (work_of zones)) 0) _ _ no_trials (pack_few (sizing room numbers options given zones) (size_few _ _ options.radius _))
     where
-      go : (t : Bool) (x y : Placements) → Few x.free_trials x.obstacle_trials → Few y.free_trials y.obstacle_trials → Few (cond t x y).free_trials (cond t x y).obstacle_trials
+      go :
+          (t : Bool) (x y : Placements) → Few x.free_trials x.obstacle_trials → Few y.free_trials y.obstacle_trials
+          → Few (cond t x y).free_trials (cond t x y).obstacle_trials
       go true x y p q = p
       go false x y p q = q
 

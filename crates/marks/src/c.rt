@@ -1,4 +1,4 @@
-// The entries for C, as plain functions: marks_c exports one for each.
+// The entries for C, as plain functions: marks_c exports one for each. They answer by numbers, as C does.
 ghost use Rattle.std.specs.Prelude.{◌≡◌, length};
 ghost use Rattle.float.specs.Order.{sqrt};
 ghost use Rattle.glyphs.specs.Hash.{fnv1a};

@@ -6,7 +6,8 @@ use Rattle.std.proofs.Common.{ap, subst, ◌∙◌, arith, take_at}
 use Rattle.std.proofs.lemmas.List.{append-nil}
 use borrow.Author.Tests.{ne_eqb, lt-leb, le-leb}
 use Rattle.laws.specs.Lists.{written}
-use Rattle.format.specs.Rows.{◌unless◌, ◌or_else◌}
+use Rattle.glyphs.specs.declared.rect.Rectangle.{Rectangle}
+use Rattle.format.specs.Rows.{◌unless◌}
 use Rattle.format.specs.declared.pieces.Pieces.{Pieces}
 use Rattle.format.specs.RowLaws.{row_fault, row_clear}
 use Rattle.sheet.specs.Sheet.{sheet_of}
@@ -19,10 +20,10 @@ use Rattle.laws.specs.Every.{Every}
 use Rattle.job.specs.Rows.{Fits, rows_fit, length_are, rows_are, room_is}
 use Rattle.job.proofs.Known.{job_known}
 use Rattle.job.specs.Steps.{ItemsRead}
-use Rattle.job.specs.Plan.{search_fault, ceiling_fault, number_of, placements_of, sheet_for, work_after, refused, given, plan_of}
+use Rattle.job.specs.Plan.{number_of, placements_of, sheet_for, work_after, refused, given, plan_of}
 use Rattle.plan.specs.Answer.{Answer, refused_by}
 use Rattle.plan.specs.Read.{zone_count, left_read}
-use Rattle.plan.specs.Called.{ReadIn, Answered, items_number, answer_of, given_by}
+use Rattle.plan.specs.Called.{ReadIn, Answered, zones_number, items_number, answer_of, given_by}
 use Rattle.plan.specs.Later.{is_early, lent_early, work_early, items_later}
 use Rattle.plan.specs.CallLaws.{cleared}
 
@@ -33,7 +34,9 @@ unfolding written
 written_none [] = refl
 written_none (x ∷ xs) = append-nil (x ∷ xs)
 
-module _ (s : List ℕ) (items : Items) (pillars : List Float) (pieces : Pieces) (rows rows' : List Row) (r : ItemsRead s items pillars pieces rows rows') (whole : items_fault s ≡ 0) where
+module _
+    {C R P : ℕ} (s : List ℕ) (items : Items) (pillars pillars' : List Rectangle) (pieces pieces' : Pieces C R P) (rows rows' : List Row)
+    (r : ItemsRead s items pillars pillars' pieces pieces' rows rows') (whole : items_fault s ≡ 0) where
   pub few_zones_lem : items.zones ≤ 64
   unfolding job_of
   few_zones_lem = omega (arith, r.put.count, zone_count s, (job_known s whole).few_zones)
@@ -52,40 +55,58 @@ module _ (s : List ℕ) (items : Items) (pillars : List Float) (pieces : Pieces)
   room_read : 15 + rows_room (take items.zones rows') ≡ sheet_room (job_of s)
   room_read = rw rows_read (room_is s whole)
 
-  pub read_in : ReadIn s items.options pillars (take items.zones rows') pieces.rings.items pieces.sizes.items pieces.coords.items
-  read_in =
-      let p = r.put in
-      let zs = zones s in
-      record {
-        whole = whole;
-        choices = unfold job_of in r.choices;
-        pillars = unfold job_of in r.pillar;
-        left = unfold job_of in rw (rows_read, p.rings ∙ sym (written_none (rings_of zs)), p.sizes ∙ sym (written_none (sizes_of zs)), p.coords ∙ sym (written_none (coords_of zs))) (left_read s whole [] [] []);
-      }
+  -- where the memory was empty
+  module _ (no_pillars : pillars ≡ []) (no_rings : pieces.rings.items ≡ []) (no_sizes : pieces.sizes.items ≡ []) (no_coords : pieces.coords.items ≡ []) where
+    pub read_in : ReadIn s items.options pillars' (take items.zones rows') pieces'.rings.items pieces'.sizes.items pieces'.coords.items
+    read_in =
+        let p = r.put in
+        let zs = zones s in
+        record {
+          whole = whole;
+          choices = unfold job_of in r.choices;
+          pillars = unfold job_of in (rw no_pillars at r.pillar);
+          left =
+              unfold job_of in
+              rw (
+                rows_read,
+                (rw no_rings at p.rings) ∙ sym (written_none (rings_of zs)),
+                (rw no_sizes at p.sizes) ∙ sym (written_none (sizes_of zs)),
+                (rw no_coords at p.coords) ∙ sym (written_none (coords_of zs)),
+              ) (left_read s whole [] [] []);
+        }
 
   -- the sheet does not fit
   lacks_room : (room sheet : ℕ) → room ≡ 15 + rows_room (take items.zones rows') → sheet < room → items_number s sheet ≡ 14
-  lacks_room room sheet e h = sym (row_clear (items_fault s) (items_fault s) _ refl whole (row_fault 14 (sheet_fault (job_of s) sheet) _ (unfold sheet_fault ◌unless◌ in rw (lt-leb (sheet_room (job_of s)) sheet (omega (arith, e, room_read)))) (λ (z : 14 ≡ 0). omega arith) refl))
+  lacks_room room sheet e h =
+      let short : 14 ≡ sheet_fault (job_of s) sheet =
+      unfold sheet_fault ◌unless◌ in rw (lt-leb (sheet_room (job_of s)) sheet (omega (arith, e, room_read))) in
+      sym (row_clear (items_fault s) (items_fault s) _ refl whole (row_fault 14 (sheet_fault (job_of s) sheet) _ short (λ (z : 14 ≡ 0). omega arith) refl))
 
   -- it does
-  has_room : (room sheet : ℕ) → room ≡ 15 + rows_room (take items.zones rows') → room ≤ sheet → items_number s sheet ≡ search_fault (job_of s) or_else ceiling_fault (job_of s)
-  has_room room sheet e h = sym (row_clear (items_fault s) (items_fault s) _ refl whole (row_clear 0 (sheet_fault (job_of s) sheet) _ (unfold sheet_fault ◌unless◌ in rw (le-leb (sheet_room (job_of s)) sheet (omega (arith, e, room_read)))) refl refl))
+  has_room : (room sheet : ℕ) → room ≡ 15 + rows_room (take items.zones rows') → room ≤ sheet → items_number s sheet ≡ zones_number (job_of s)
+  has_room room sheet e h =
+      let fits : 0 ≡ sheet_fault (job_of s) sheet =
+      unfold sheet_fault ◌unless◌ in rw (le-leb (sheet_room (job_of s)) sheet (omega (arith, e, room_read))) in
+      sym (row_clear (items_fault s) (items_fault s) _ refl whole (row_clear 0 (sheet_fault (job_of s) sheet) _ fits refl refl))
 
-  pub short_answered : (room : ℕ) (sheet : List ℕ) → room ≡ 15 + rows_room (take items.zones rows') → length sheet < room → Answered (items_number s (length sheet)) (job_of s) (refused_by 14) sheet sheet
+  pub short_answered :
+      (room : ℕ) (sheet : List ℕ) → room ≡ 15 + rows_room (take items.zones rows') → length sheet < room
+      → Answered (items_number s (length sheet)) (job_of s) (refused_by 14) sheet sheet
   short_answered room sheet e h =
       let f = lacks_room room (length sheet) e h in
       record { refused = λ _. (ap refused_by (sym f), refl); given = λ (z : items_number s (length sheet) ≡ 0). absurd (omega (arith, sym f ∙ z)) }
 
   pub zones_answered :
       (room : ℕ) (answer : Answer) (sheet sheet' : List ℕ) → room ≡ 15 + rows_room (take items.zones rows') → room ≤ length sheet
-      → Answered (search_fault (job_of s) or_else ceiling_fault (job_of s)) (job_of s) answer sheet sheet' → Answered (items_number s (length sheet)) (job_of s) answer sheet sheet'
+      → Answered (zones_number (job_of s)) (job_of s) answer sheet sheet' → Answered (items_number s (length sheet)) (job_of s) answer sheet sheet'
   zones_answered room answer sheet sheet' e h a = subst (λ (x : ℕ). Answered x (job_of s) answer sheet sheet') (sym (has_room room (length sheet) e h)) a
 
 module _ (s : List ℕ) (first second : List Float) (sheet : List ℕ) where
   -- what the call answers, and what it leaves
   pub record Ends (r : Answer) (first' second' : List Float) (sheet' : List ℕ) : Type 0 where
     pub answer : r ≡ answer_of (plan_of s first second sheet)
-    pub lent : (first' ≡ (plan_of s first second sheet).first) × (second' ≡ (plan_of s first second sheet).second) × (sheet' ≡ (plan_of s first second sheet).sheet)
+    pub lent :
+        (first' ≡ (plan_of s first second sheet).first) × (second' ≡ (plan_of s first second sheet).second) × (sheet' ≡ (plan_of s first second sheet).sheet)
 
   plan_refused : (n : ℕ) → number_of s first second sheet ≡ n → (n ≡ 0 → ⊥) → plan_of s first second sheet ≡ refused n first second sheet
   unfolding plan_of
@@ -118,12 +139,15 @@ module _ (s : List ℕ) (first second : List Float) (sheet : List ℕ) where
 
   number_items : lent_fault s ≡ 0 → work_fault (length first) (length second) ≡ 0 → items_number s (length sheet) ≡ number_of s first second sheet
   unfolding number_of
-  number_items l w = row_clear (lent_fault s) (lent_fault s) _ refl l (row_clear (work_fault (length first) (length second)) (work_fault (length first) (length second)) _ refl w refl)
+  number_items l w =
+      row_clear (lent_fault s) (lent_fault s) _ refl l
+      (row_clear (work_fault (length first) (length second)) (work_fault (length first) (length second)) _ refl w refl)
 
   pub ends_lent : (n : ℕ) (r : Answer) → n ≡ lent_fault s → (n ≡ 0 → ⊥) → r ≡ refused_by n → Ends r first second sheet
   ends_lent n r e h a = ends_early n r (sym (number_lent n e h)) h (rw e (lent_early s (λ z. h (e ∙ z)))) a
 
-  pub ends_work : (n : ℕ) (r : Answer) → lent_fault s ≡ 0 → n ≡ work_fault (length first) (length second) → (n ≡ 0 → ⊥) → r ≡ refused_by n → Ends r first second sheet
+  pub ends_work :
+      (n : ℕ) (r : Answer) → lent_fault s ≡ 0 → n ≡ work_fault (length first) (length second) → (n ≡ 0 → ⊥) → r ≡ refused_by n → Ends r first second sheet
   ends_work n r l e h a = ends_early n r (sym (number_work n l e h)) h (rw e (work_early (length first) (length second) (λ z. h (e ∙ z)))) a
 
   given_answer : (placements : Placements) (r : Answer) → r ≡ given_by placements → r ≡ answer_of (given placements first second sheet)
@@ -132,13 +156,15 @@ module _ (s : List ℕ) (first second : List Float) (sheet : List ℕ) where
 
   given_lent :
       (placements : Placements) (sheet' : List ℕ) → sheet' ≡ written (sheet_of (sheet_for placements)) sheet
-      → (cleared first ≡ (given placements first second sheet).first) × (cleared second ≡ (given placements first second sheet).second) × (sheet' ≡ (given placements first second sheet).sheet)
+      → (cleared first ≡ (given placements first second sheet).first) × (cleared second ≡ (given placements first second sheet).second)
+      × (sheet' ≡ (given placements first second sheet).sheet)
   unfolding given work_after
   given_lent placements sheet' e = (refl, refl, e)
 
   refused_lent :
       (n : ℕ) (sheet' : List ℕ) → is_early n ≡ false → sheet' ≡ sheet
-      → (cleared first ≡ (refused n first second sheet).first) × (cleared second ≡ (refused n first second sheet).second) × (sheet' ≡ (refused n first second sheet).sheet)
+      → (cleared first ≡ (refused n first second sheet).first) × (cleared second ≡ (refused n first second sheet).second)
+      × (sheet' ≡ (refused n first second sheet).sheet)
   unfolding refused work_after
   refused_lent n sheet' later e = rw later (refl, refl, e)
 

@@ -24,6 +24,9 @@ refused_with fault job refusal r sheet f h =
     record { refused = λ _. (refusal_in refusal r h ∙ ap refused_by f, refl); given = λ z. absurd (numbered refusal (f ∙ z)) }
 
 -- the reader's goes before every later row
-pub items_refused : (s : List ℕ) (refusal : Refusal) (r : Result Planned Refusal) (sheet : List ℕ) → number_of refusal ≡ items_fault s → IsErrAnd r (λ e. e ≡ refusal) → Answered (items_number s (length sheet)) (job_of s) (answer_in r) sheet sheet
+pub items_refused :
+    (s : List ℕ) (refusal : Refusal) (r : Result Planned Refusal) (sheet : List ℕ) → number_of refusal ≡ items_fault s → IsErrAnd r (λ e. e ≡ refusal)
+    → Answered (items_number s (length sheet)) (job_of s) (answer_in r) sheet sheet
 items_refused s refusal r sheet e h =
-    refused_with (items_number s (length sheet)) (job_of s) refusal r sheet (e ∙ row_fault (items_fault s) (items_fault s) _ refl (λ z. numbered refusal (e ∙ z)) refl) h
+    refused_with (items_number s (length sheet)) (job_of s) refusal r sheet
+    (e ∙ row_fault (items_fault s) (items_fault s) _ refl (λ z. numbered refusal (e ∙ z)) refl) h

@@ -24,7 +24,7 @@ use Rattle.regions.specs.Ring.{Piece, outer, sum}
 use Rattle.deepest.specs.declared.search.Deepest.{Deepest}
 use Rattle.deepest.specs.declared.search.Deepest.TheVariants.{Found, Nothing, Full}
 use Rattle.relax.specs.Kept.{length_relaxed}
-use Rattle.relax.specs.Scatter.{source, relax_scatter}
+use Rattle.relax.specs.Scatter.{relax_scatter}
 use Rattle.relax.specs.declared.Spreading.{Spreading}
 use Rattle.lattice.specs.Context.{inset, spacing}
 use Rattle.lattice.specs.Escape.{point}
@@ -57,7 +57,9 @@ use Rattle.plan.specs.Own.{length_quotas, length_found_of, Filled, own_of, own_s
 -- ---- one piece
 
 module _ (piece : Piece) (n : ℕ) (ctx : PackCtx) (obstacles : List Rectangle) (spread : ctx.mode.spread ≡ true) where
-  spread_count : (rectangular : Bool) (near : List Rectangle) (anchor : Point) (b : Option Extents) (at_min : HexCells) (honoring : Bool) → length (spread_cells piece n ctx rectangular near anchor b at_min honoring) ≤ n
+  spread_count :
+      (rectangular : Bool) (near : List Rectangle) (anchor : Point) (b : Option Extents) (at_min : HexCells) (honoring : Bool)
+      → length (spread_cells piece n ctx rectangular near anchor b at_min honoring) ≤ n
   unfolding spread_cells
   spread_count rectangular near anchor None at_min honoring = taken_count at_min n anchor honoring
   spread_count rectangular near anchor (Some bounds) at_min honoring = taken_count _ n anchor honoring
@@ -70,7 +72,9 @@ module _ (piece : Piece) (n : ℕ) (ctx : PackCtx) (obstacles : List Rectangle) 
       go at_min (not honoring && ctx.mode.strict_obstacles) (ltb (available honoring at_min) n || not ctx.mode.spread) honoring ctx.mode.spread spread
     where
       go : (at_min : HexCells) (s b h sp : Bool) → sp ≡ true
-          → length (cond s (cond sp (take_cells at_min n anchor true) at_min.free) (cond b (take_cells at_min n anchor h) (spread_cells piece n ctx rectangular near anchor (ring_bounds (outer piece)) at_min h))) ≤ n
+          → length (cond s (cond sp (take_cells at_min n anchor true) at_min.free)
+          (cond b (take_cells at_min n anchor h) (spread_cells piece n ctx rectangular near anchor (ring_bounds (outer piece)) at_min h)))
+          ≤ n
       go at_min true b h true e = taken_count at_min n anchor true
       go at_min true b h false e = absurd (never e)
       go at_min false true h sp e = taken_count at_min n anchor h
@@ -86,7 +90,8 @@ module _ (piece : Piece) (n : ℕ) (ctx : PackCtx) (obstacles : List Rectangle) 
   within_count : (anchor : Option Point) (b : Option Extents) → length (pack_within b anchor piece n ctx obstacles) ≤ n
   unfolding pack_within
   within_count anchor None = omega arith
-  within_count anchor (Some bounds) = scattered_count piece n ctx (local_to piece obstacles (inset ctx)) anchor bounds.min_x bounds.max_x bounds.min_y bounds.max_y
+  within_count anchor (Some bounds) =
+      scattered_count piece n ctx (local_to piece obstacles (inset ctx)) anchor bounds.min_x bounds.max_x bounds.min_y bounds.max_y
 
   scatter_count : (anchor : Option Point) → length (pack_scatter anchor piece n ctx obstacles) ≤ n
   unfolding pack_scatter
@@ -102,7 +107,8 @@ module _ (piece : Piece) (n : ℕ) (ctx : PackCtx) (obstacles : List Rectangle) 
   low_count Full = scatter_count None
   low_count (Found x y clearance) = scatter_count (lone_anchor (point x y) piece n ctx obstacles)
 
-  darts_count : (numbers : Spreading) (attempts : ℕ) (b : Option Extents) (rng : Stream) → length (throw_within b numbers piece n attempts ctx obstacles rng).placed ≤ n
+  darts_count :
+      (numbers : Spreading) (attempts : ℕ) (b : Option Extents) (rng : Stream) → length (throw_within b numbers piece n attempts ctx obstacles rng).placed ≤ n
   unfolding throw_within
   darts_count numbers attempts None rng = omega arith
   darts_count numbers attempts (Some bounds) rng = go ctx.mode.spread
@@ -116,29 +122,39 @@ module _ (piece : Piece) (n : ℕ) (ctx : PackCtx) (obstacles : List Rectangle) 
       few : length thrown.placed ≤ n
       few = thrown_count piece n attempts ctx near bounds.min_x bounds.max_x bounds.min_y bounds.max_y rng
 
-      go : (b : Bool) → length (cond b (record { placed = relax_scatter numbers thrown.placed piece near (spacing ctx) (inset ctx); rng = thrown.rng }) thrown).placed ≤ n
+      go :
+          (b : Bool)
+          → length (cond b (record { placed = relax_scatter numbers thrown.placed piece near (spacing ctx) (inset ctx); rng = thrown.rng }) thrown).placed ≤ n
       go true = rw (length_relaxed numbers thrown.placed piece near (spacing ctx) (inset ctx)) few
       go false = few
 
-  piece_count : (numbers : Spreading) (options : GlyphOptions) (arrangement : GlyphArrangement) (found : Deepest) (rng : Stream) → length (pack_piece_from numbers options arrangement ctx obstacles found piece n rng).placed ≤ n
+  piece_count :
+      (numbers : Spreading) (options : GlyphOptions) (arrangement : GlyphArrangement) (found : Deepest) (rng : Stream)
+      → length (pack_piece_from numbers options arrangement ctx obstacles found piece n rng).placed ≤ n
   unfolding pack_piece_from pack_random_piece
   piece_count numbers options Uniform found rng = uniform_count false found
   piece_count numbers options Rectangular found rng = uniform_count true found
   piece_count numbers options LowDiscrepancy found rng = low_count found
   piece_count numbers options Random found rng = darts_count numbers options.max_attempts (ring_bounds (outer piece)) rng
 
-  quota_count : (numbers : Spreading) (options : GlyphOptions) (found : Deepest) (rng : Stream) → length (pack_quota numbers options ctx obstacles found piece n rng).placed ≤ n
+  quota_count :
+      (numbers : Spreading) (options : GlyphOptions) (found : Deepest) (rng : Stream)
+      → length (pack_quota numbers options ctx obstacles found piece n rng).placed ≤ n
   unfolding pack_quota
   quota_count numbers options found rng = go (eqb n 0)
     where
-      go : (b : Bool) → length (cond b (record { placed = []; rng = rng }) (pack_piece_from numbers options options.arrangement ctx obstacles found piece n rng)).placed ≤ n
+      go :
+          (b : Bool)
+          → length (cond b (record { placed = []; rng = rng }) (pack_piece_from numbers options options.arrangement ctx obstacles found piece n rng)).placed ≤ n
       go true = omega arith
       go false = piece_count numbers options options.arrangement found rng
 
 -- ---- one zone
 
 module _ (numbers : Spreading) (options : GlyphOptions) (ctx : PackCtx) (obstacles : List Rectangle) (spread : ctx.mode.spread ≡ true) where
-  pieces_count : (pieces : List Piece) (deepests : List Deepest) (shares : List ℕ) (rng : Stream) → placed_in (pack_pieces_from numbers options ctx obstacles pieces deepests shares rng) ≤ sum shares
+  pieces_count :
+      (pieces : List Piece) (deepests : List Deepest) (shares : List ℕ) (rng : Stream)
+      → placed_in (pack_pieces_from numbers options ctx obstacles pieces deepests shares rng) ≤ sum shares
   unfolding pack_pieces_from placed_in sum
   pieces_count [] deepests shares rng = omega arith
   pieces_count (piece ∷ pieces) [] shares rng = omega arith
@@ -147,18 +163,23 @@ module _ (numbers : Spreading) (options : GlyphOptions) (ctx : PackCtx) (obstacl
       let thrown = pack_quota numbers options ctx obstacles found piece quota rng in
       omega (arith, quota_count piece quota ctx obstacles spread numbers options found rng, pieces_count pieces deepests shares thrown.rng)
 
-place_count : (sizing : Option Size) (options : GlyphOptions) (obstacles : List Rectangle) (zone : Zone) → placed_in (place_for sizing options obstacles (own_of options zone)) ≤ sum (quotas zone)
+place_count :
+    (numbers : Spreading) (sizing : Option Size) (options : GlyphOptions) (obstacles : List Rectangle) (zone : Zone)
+    → placed_in (place_for numbers sizing options obstacles (own_of options zone)) ≤ sum (quotas zone)
 unfolding place_for pack_handed
-place_count None options obstacles zone = unfold placed_in in omega arith
-place_count (Some size) options obstacles zone =
-    pieces_count source options (context_at options (pack options) size.radius) obstacles refl zone.pieces _ (quotas zone) (seeded options.seed (fnv1a zone.key))
+place_count numbers None options obstacles zone = unfold placed_in in omega arith
+place_count numbers (Some size) options obstacles zone =
+    pieces_count numbers options (context_at options (pack options) size.radius) obstacles refl zone.pieces _ (quotas zone)
+    (seeded options.seed (fnv1a zone.key))
 
 sum_same : (l : List ℕ) → sum l ≡ HandOut.sum l
 unfolding sum weigh
 sum_same [] = refl
 sum_same (x ∷ xs) = omega (arith, sum_same xs)
 
-module _ (s : List ℕ) (row : Row) (rows : List Row) (rings sizes : List ℕ) (coords : List Float) (zone : Zone) (zones : List Zone) (at : Offsets) (l : Left s (row ∷ rows) rings sizes coords (zone ∷ zones) at) where
+module _
+    (s : List ℕ) (row : Row) (rows : List Row) (rings sizes : List ℕ) (coords : List Float) (zone : Zone) (zones : List Zone) (at : Offsets)
+    (l : Left s (row ∷ rows) rings sizes coords (zone ∷ zones) at) where
   -- the quotas of a zone left in are its marks
   quota_sum : row_is_left_in row ≡ true → sum (quotas zone) ≡ row.count
   unfolding is_left_in
@@ -211,15 +232,22 @@ module _ (s : List ℕ) (row : Row) (rows : List Row) (rings sizes : List ℕ) (
           few = λ (e : row_is_left_in row ≡ true). rw (own_shares options s row rows rings sizes coords shares deepest zone zones at l f, quota_sum e) r.marks;
         }
 
-    fair : (sizing : Option Size) (obstacles : List Rectangle) → Fair sizing options obstacles s rings sizes coords shares deepest row at
+    fair :
+        (numbers : Spreading) (sizing : Option Size) (obstacles : List Rectangle)
+        → Fair numbers sizing options obstacles s rings sizes coords shares deepest row at
     unfolding Fair
-    fair sizing obstacles e = rw (handed_own options s row rows rings sizes coords shares deepest zone zones at l f, ← quota_sum e) (place_count sizing options obstacles zone)
+    fair numbers sizing obstacles e =
+        rw (
+          handed_own options s row rows rings sizes coords shares deepest zone zones at l f,
+          ← quota_sum e,
+        ) (place_count numbers sizing options obstacles zone)
 
 -- ---- all zones
 
 module _ (options : GlyphOptions) (s rings sizes : List ℕ) (coords : List Float) (shares : List ℕ) (deepest : List Deepest) where
   all_packable :
-      (rows : List Row) (zones : List Zone) (at : Offsets) → Left s rows rings sizes coords zones at → Filled options shares deepest zones at → at.piece ≤ length shares → at.piece ≤ length deepest
+      (rows : List Row) (zones : List Zone) (at : Offsets) → Left s rows rings sizes coords zones at → Filled options shares deepest zones at
+      → at.piece ≤ length shares → at.piece ≤ length deepest
       → EachRow rings sizes (Packable s rings sizes coords shares deepest) rows at
   unfolding EachRow AreRows
   all_packable [] zones at l f p q = tt
@@ -227,21 +255,26 @@ module _ (options : GlyphOptions) (s rings sizes : List ℕ) (coords : List Floa
   all_packable (row ∷ rows) (zone ∷ zones) at l f p q =
       let past = past_piece rings sizes row at in (
         packable s row rows rings sizes coords zone zones at l options shares deepest f p q,
-        all_packable rows zones (past_row rings sizes row at) (left_next s row rows rings sizes coords zone zones at l) (filled_next options s row rows rings sizes coords shares deepest zone zones at l f)
+        all_packable rows zones (past_row rings sizes row at) (left_next s row rows rings sizes coords zone zones at l)
+            (filled_next options s row rows rings sizes coords shares deepest zone zones at l f)
             (rw past (shares_fit s row rows rings sizes coords zone zones at l options shares deepest f p))
             (rw past (deepest_fit s row rows rings sizes coords zone zones at l options shares deepest f q)),
       )
 
-  pub floor_is : (rows : List Row) (zones : List Zone) → Left s rows rings sizes coords zones start → Filled options shares deepest zones start → Floor s rows rings sizes coords shares deepest
+  pub floor_is :
+      (rows : List Row) (zones : List Zone) → Left s rows rings sizes coords zones start → Filled options shares deepest zones start
+      → Floor s rows rings sizes coords shares deepest
   floor_is rows zones l f = all_packable rows zones start l f (omega arith) (omega arith)
 
   pub all_fair :
-      (sizing : Option Size) (obstacles : List Rectangle) (rows : List Row) (zones : List Zone) (at : Offsets) → Left s rows rings sizes coords zones at → Filled options shares deepest zones at
-      → EachRow rings sizes (Fair sizing options obstacles s rings sizes coords shares deepest) rows at
+      (numbers : Spreading) (sizing : Option Size) (obstacles : List Rectangle) (rows : List Row) (zones : List Zone) (at : Offsets)
+      → Left s rows rings sizes coords zones at → Filled options shares deepest zones at
+      → EachRow rings sizes (Fair numbers sizing options obstacles s rings sizes coords shares deepest) rows at
   unfolding EachRow AreRows
-  all_fair sizing obstacles [] zones at l f = tt
-  all_fair sizing obstacles (row ∷ rows) [] at l f = absurd l.are_rows
-  all_fair sizing obstacles (row ∷ rows) (zone ∷ zones) at l f = (
-    fair s row rows rings sizes coords zone zones at l options shares deepest f sizing obstacles,
-    all_fair sizing obstacles rows zones (past_row rings sizes row at) (left_next s row rows rings sizes coords zone zones at l) (filled_next options s row rows rings sizes coords shares deepest zone zones at l f),
+  all_fair numbers sizing obstacles [] zones at l f = tt
+  all_fair numbers sizing obstacles (row ∷ rows) [] at l f = absurd l.are_rows
+  all_fair numbers sizing obstacles (row ∷ rows) (zone ∷ zones) at l f = (
+    fair s row rows rings sizes coords zone zones at l options shares deepest f numbers sizing obstacles,
+    all_fair numbers sizing obstacles rows zones (past_row rings sizes row at) (left_next s row rows rings sizes coords zone zones at l)
+        (filled_next options s row rows rings sizes coords shares deepest zone zones at l f),
   )

@@ -60,14 +60,23 @@ module _ (piece : Piece) (pieces : List Piece) (rs : List ℕ) (rc : List Float)
   coords_rest : drop (sum (map vertices piece) * 2) (coords_in (piece ∷ pieces) ++ rc) ≡ coords_in pieces ++ rc
   coords_rest = rw coords_first (back (flatten piece) (coords_in pieces ++ rc) (sum (map vertices piece) * 2) (sym (vertices_sum piece k.rings)))
 
-pub pieces_back : (pieces : List Piece) (rs : List ℕ) (rc : List Float) → All PieceKnown pieces → pieces_of (map length pieces) (sizes_in pieces ++ rs) (coords_in pieces ++ rc) ≡ pieces
+pub pieces_back :
+    (pieces : List Piece) (rs : List ℕ) (rc : List Float) → All PieceKnown pieces
+    → pieces_of (map length pieces) (sizes_in pieces ++ rs) (coords_in pieces ++ rc) ≡ pieces
 unfolding pieces_of
 pieces_back [] rs rc k = refl
 pieces_back (piece ∷ pieces) rs rc k =
-    rw (sizes_first piece pieces rs rc k.0, sizes_rest piece pieces rs rc k.0, coords_rest piece pieces rs rc k.0, pieces_back pieces rs rc k.1, coords_first piece pieces rs rc k.0)
+    rw (
+      sizes_first piece pieces rs rc k.0,
+      sizes_rest piece pieces rs rc k.0,
+      coords_rest piece pieces rs rc k.0,
+      pieces_back pieces rs rc k.1,
+      coords_first piece pieces rs rc k.0,
+    )
     (ap (λ (p : Piece). p ∷ pieces) (piece_back piece (coords_in pieces ++ rc) k.0.rings))
 
-pub laid_back : (pieces : List Piece) (rs : List ℕ) (rc : List Float) → All PieceKnown pieces → Laid (map length pieces) (sizes_in pieces ++ rs) (coords_in pieces ++ rc)
+pub laid_back :
+    (pieces : List Piece) (rs : List ℕ) (rc : List Float) → All PieceKnown pieces → Laid (map length pieces) (sizes_in pieces ++ rs) (coords_in pieces ++ rc)
 unfolding Laid flat_map
 laid_back [] rs rc k = tt
 laid_back (piece ∷ pieces) rs rc k =

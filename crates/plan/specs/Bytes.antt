@@ -12,6 +12,7 @@ use Rattle.format.specs.Numbers.{float_bytes}
 use Rattle.sheet.specs.Sheet.{Placement, zone_head, placement_bytes}
 use Rattle.sheet.proofs.Back.{length_placement}
 use Rattle.sheet.proofs.Laws.{put_placement}
+use Rattle.relax.specs.declared.Spreading.{Spreading}
 use Rattle.deepest.specs.declared.search.Deepest.{Deepest}
 use Rattle.discs.specs.declared.radius.Size.{Size}
 use Rattle.discs.specs.declared.options.GlyphOptions.{GlyphOptions}
@@ -44,8 +45,10 @@ module _ (s : List ℕ) (row : Row) (placed : ℕ) (spots : List Float) (h : row
   bytes_long = omega (arith, length_placement (placement_of s row placed spots), key_long, spots_long)
 
   pub placement_put :
-      (l₀ l₁ l₂ : List ℕ) (at from : ℕ) (part : List Float) → from ≡ at + 5 + row.len → l₁ ≡ sets l₀ at (zone_head (cut row.key row.len s) placed (row.count - placed))
-      → part ≡ cut 0 (placed * 2) spots → l₂ ≡ sets l₁ from (flat_map float_bytes part) → Put (placement_bytes (placement_of s row placed spots)) at (from + 16 * placed) l₀ l₂
+      (l₀ l₁ l₂ : List ℕ) (at from : ℕ) (part : List Float) → from ≡ at + 5 + row.len
+      → l₁ ≡ sets l₀ at (zone_head (cut row.key row.len s) placed (row.count - placed))
+      → part ≡ cut 0 (placed * 2) spots → l₂ ≡ sets l₁ from (flat_map float_bytes part)
+      → Put (placement_bytes (placement_of s row placed spots)) at (from + 16 * placed) l₀ l₂
   placement_put l₀ l₁ l₂ at from part f e₁ p e₂ =
       let half : length (take (placed * 2) spots) / 2 ≡ placed = rw spots_long (omega arith) in
       record {
@@ -53,31 +56,39 @@ module _ (s : List ℕ) (row : Row) (placed : ℕ) (spots : List Float) (h : row
         put = e₂ ∙ rw (e₁, p, f) (rw (half, key_long) at (put_placement l₀ at (placement_of s row placed spots)));
       }
 
-module _ (sizing : Option Size) (options : GlyphOptions) (obstacles : List Rectangle) (s rings sizes : List ℕ) (coords : List Float) (quotas : List ℕ) (deepest : List Deepest) (row : Row) (at : Offsets) where
-  pub bytes_out : (p : ℕ) (sheet : List ℕ) → row_is_left_in row ≡ false → Put (bytes_at sizing options obstacles s rings sizes coords quotas deepest row at) p p sheet sheet
+module _
+    (numbers : Spreading) (sizing : Option Size) (options : GlyphOptions) (obstacles : List Rectangle) (s rings sizes : List ℕ) (coords : List Float)
+    (quotas : List ℕ) (deepest : List Deepest) (row : Row) (at : Offsets) where
+  pub bytes_out :
+      (p : ℕ) (sheet : List ℕ) → row_is_left_in row ≡ false
+      → Put (bytes_at numbers sizing options obstacles s rings sizes coords quotas deepest row at) p p sheet sheet
   unfolding bytes_at placed_at flat_map
   bytes_out p sheet e = record { ends = rw e (omega arith); put = rw e }
 
-  pub none_out : row_is_left_in row ≡ false → length (placed_at sizing options obstacles s rings sizes coords quotas deepest row at) ≡ 0
+  pub none_out : row_is_left_in row ≡ false → length (placed_at numbers sizing options obstacles s rings sizes coords quotas deepest row at) ≡ 0
   unfolding placed_at
   none_out e = rw e
 
-  pub one_in : row_is_left_in row ≡ true → length (placed_at sizing options obstacles s rings sizes coords quotas deepest row at) ≡ 1
+  pub one_in : row_is_left_in row ≡ true → length (placed_at numbers sizing options obstacles s rings sizes coords quotas deepest row at) ≡ 1
   unfolding placed_at
   one_in e = rw e
 
   pub bytes_in :
-      (placed : ℕ) (spots₀ spots₁ : List Float) → row_is_left_in row ≡ true → placed ≡ placed_in (spots_at sizing options obstacles s rings sizes coords quotas deepest row at)
-      → spots₁ ≡ written (flat (flatten (spots_at sizing options obstacles s rings sizes coords quotas deepest row at))) spots₀
-      → placement_bytes (placement_of s row placed spots₁) ≡ bytes_at sizing options obstacles s rings sizes coords quotas deepest row at
+      (placed : ℕ) (spots₀ spots₁ : List Float) → row_is_left_in row ≡ true
+      → placed ≡ placed_in (spots_at numbers sizing options obstacles s rings sizes coords quotas deepest row at)
+      → spots₁ ≡ written (flat (flatten (spots_at numbers sizing options obstacles s rings sizes coords quotas deepest row at))) spots₀
+      → placement_bytes (placement_of s row placed spots₁) ≡ bytes_at numbers sizing options obstacles s rings sizes coords quotas deepest row at
   unfolding bytes_at placed_at flat_map placement_for handed_at
   bytes_in placed spots₀ spots₁ e p q =
-      let all = spots_at sizing options obstacles s rings sizes coords quotas deepest row at in
-      let f : take (placed_in all * 2) (written (flat (flatten all)) spots₀) ≡ flat (flatten all) = front_is (flat (flatten all)) spots₀ (placed_in all * 2) (length_joined all) in
+      let all = spots_at numbers sizing options obstacles s rings sizes coords quotas deepest row at in
+      let f : take (placed_in all * 2) (written (flat (flatten all)) spots₀) ≡ flat (flatten all) =
+      front_is (flat (flatten all)) spots₀ (placed_in all * 2) (length_joined all) in
       rw (e, p, q, f) (sym (append-nil _))
 
   pub bytes_count :
-      (placed : ℕ) (spots₀ spots₁ : List Float) → row_is_left_in row ≡ true → placed ≡ placed_in (spots_at sizing options obstacles s rings sizes coords quotas deepest row at)
-      → spots₁ ≡ written (flat (flatten (spots_at sizing options obstacles s rings sizes coords quotas deepest row at))) spots₀ → row.key + row.len ≤ length s → placed * 2 ≤ length spots₁
-      → length (bytes_at sizing options obstacles s rings sizes coords quotas deepest row at) ≡ 5 + row.len + 16 * placed
+      (placed : ℕ) (spots₀ spots₁ : List Float) → row_is_left_in row ≡ true
+      → placed ≡ placed_in (spots_at numbers sizing options obstacles s rings sizes coords quotas deepest row at)
+      → spots₁ ≡ written (flat (flatten (spots_at numbers sizing options obstacles s rings sizes coords quotas deepest row at))) spots₀
+      → row.key + row.len ≤ length s → placed * 2 ≤ length spots₁
+      → length (bytes_at numbers sizing options obstacles s rings sizes coords quotas deepest row at) ≡ 5 + row.len + 16 * placed
   bytes_count placed spots₀ spots₁ e p q h i = rw (← bytes_in placed spots₀ spots₁ e p q) (bytes_long s row placed spots₁ h i)

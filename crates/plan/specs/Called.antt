@@ -1,6 +1,8 @@
 -- What is asked and answered of a job that was read into flat slices. Definitions only.
 use Rattle.std.specs.Prelude.{ℕ, ◌≡◌, List, length, Float}
 use Rattle.laws.specs.Lists.{written}
+use Rattle.glyphs.specs.Rect.{rectangles}
+use Rattle.glyphs.specs.declared.rect.Rectangle.{Rectangle}
 use Rattle.sheet.specs.Sheet.{sheet_of}
 use Rattle.discs.specs.declared.rows.Row.{Row}
 use Rattle.discs.specs.declared.options.GlyphOptions.{GlyphOptions}
@@ -13,10 +15,12 @@ use Rattle.plan.specs.Answer.{Answer, refused_by}
 use Rattle.plan.specs.Left.{Left}
 
 -- a job without fault that stands in the slices
-pub record ReadIn (s : List ℕ) (options : GlyphOptions) (obstacles : List Float) (rows : List Row) (rings sizes : List ℕ) (coords : List Float) : Type 0 where
+pub record ReadIn
+    (s : List ℕ) (options : GlyphOptions) (obstacles : List Rectangle) (rows : List Row) (rings sizes : List ℕ) (coords : List Float) :
+    Type 0 where
   pub whole : items_fault s ≡ 0
   pub choices : options ≡ (job_of s).options
-  pub pillars : obstacles ≡ (job_of s).obstacles
+  pub pillars : obstacles ≡ rectangles (job_of s).obstacles
   pub left : Left s rows rings sizes coords (job_of s).zones start
 
 abbrev pub given_by : Placements → Answer
@@ -33,9 +37,13 @@ pub record Answered (fault : ℕ) (job : Job) (r : Answer) (sheet sheet' : List 
   pub refused : (fault ≡ 0 → ⊥) → (r ≡ refused_by fault) × (sheet' ≡ sheet)
   pub given : fault ≡ 0 → (r ≡ given_by (placements_of job)) × (sheet' ≡ written (sheet_of (sheet_for (placements_of job))) sheet)
 
+-- rows 15 and 16
+abbrev pub zones_number : Job → ℕ
+zones_number job = search_fault job or_else ceiling_fault job
+
 -- rows 3 to 16
 abbrev pub items_number : List ℕ → ℕ → ℕ
-items_number s sheet = items_fault s or_else sheet_fault (job_of s) sheet or_else search_fault (job_of s) or_else ceiling_fault (job_of s)
+items_number s sheet = items_fault s or_else sheet_fault (job_of s) sheet or_else zones_number (job_of s)
 
 abbrev pub answer_of : Plan → Answer
 answer_of plan = record { length = plan.length; number = plan.number; free_trials = plan.free_trials; obstacle_trials = plan.obstacle_trials }

@@ -2,11 +2,12 @@
 use Rattle.std.specs.Prelude.{ℕ, ◌≡◌, Bool, true, cond}
 use mathlib.Core.List.{List, [], ◌∷◌}
 use Rattle.std.proofs.lemmas.List.Edits.{sets}
+use Rattle.laws.specs.Any.{all}
 use Rattle.regions.specs.Ring.{Piece}
 use Rattle.deepest.specs.declared.search.Deepest.{Deepest}
 use Rattle.deepest.specs.declared.search.Deepest.TheVariants.{Nothing}
 use Rattle.discs.specs.declared.options.GlyphOptions.{GlyphOptions}
-use Rattle.discs.specs.Searches.{searched}
+use Rattle.discs.specs.Searches.{searched, had_room}
 
 -- the deepest point of a piece, where its zone is left in and it is searched for; 1,600 cells may wait
 unfoldable pub found_for : GlyphOptions → Bool → Piece → ℕ → Deepest
@@ -21,3 +22,7 @@ found_in options left_in (piece ∷ pieces) (quota ∷ quotas) = found_for optio
 pub record Searched (start : ℕ) (fit : Bool) (founds : List Deepest) (r : Bool) (deepest deepest' : List Deepest) : Type 0 where
   pub fits : r ≡ fit
   pub put : r ≡ true → deepest' ≡ sets deepest start founds
+
+-- the same of the pieces of one zone
+abbrev pub PiecesSearched : ℕ → List Deepest → Bool → List Deepest → List Deepest → Type 0
+PiecesSearched start founds r deepest deepest' = Searched start (all had_room founds) founds r deepest deepest'

@@ -73,7 +73,9 @@ later_after (suc kind) s at most = later_item 4 s at 0 most 4 refl
 module _ (s : List ℕ) where
   later_choices : Later (choices_fault s)
   unfolding choices_fault
-  later_choices = later_else _ _ (later_item 1 s _ 0 3 4 refl) (later_else _ _ (later_item 1 s _ 0 1 4 refl) (later_else _ _ (later_item 1 s _ 0 1 4 refl) (later_after _ s _ _)))
+  later_choices =
+      later_else _ _ (later_item 1 s _ 0 3 4 refl)
+      (later_else _ _ (later_item 1 s _ 0 1 4 refl) (later_else _ _ (later_item 1 s _ 0 1 4 refl) (later_after _ s _ _)))
 
   later_measures : Later (measures_fault s)
   unfolding measures_fault
@@ -90,7 +92,9 @@ module _ (s : List ℕ) where
 
   later_obstacles : Later (obstacles_fault s)
   unfolding obstacles_fault
-  later_obstacles = later_else _ _ (later_item 2 s obstacles_at 0 64 8 refl) (later_faults (coord_in s 8) next_coord (later_coord s 8 refl) (4 * u16 s obstacles_at) (obstacles_at + 2))
+  later_obstacles =
+      later_else _ _ (later_item 2 s obstacles_at 0 64 8 refl)
+      (later_faults (coord_in s 8) next_coord (later_coord s 8 refl) (4 * u16 s obstacles_at) (obstacles_at + 2))
 
   later_ring : (at : ℕ) → Later (ring_fault s at)
   unfolding ring_fault
@@ -106,7 +110,9 @@ module _ (s : List ℕ) where
 
   later_key : (at : ℕ) (last : List ℕ) → Later (key_fault s at last)
   unfolding key_fault
-  later_key at last = later_else _ _ (later_item 1 s at 1 32 9 refl) (later_else _ _ (later_faults (letter_fault s) next_byte later_letter (u8 s at) (at + 1)) (later_unless 11 _ refl))
+  later_key at last =
+      later_else _ _ (later_item 1 s at 1 32 9 refl)
+      (later_else _ _ (later_faults (letter_fault s) next_byte later_letter (u8 s at) (at + 1)) (later_unless 11 _ refl))
 
   later_counts : (at marks : ℕ) → Later (counts_fault s at marks)
   unfolding counts_fault
@@ -128,7 +134,9 @@ module _ (s : List ℕ) where
 
   later_items : Later (items_fault s)
   unfolding items_fault
-  later_items = later_else (head_fault s) (obstacles_fault s or_else zones_fault s) later_head (later_else (obstacles_fault s) (zones_fault s) later_obstacles later_zones)
+  later_items =
+      later_else (head_fault s) (obstacles_fault s or_else zones_fault s) later_head
+      (later_else (obstacles_fault s) (zones_fault s) later_obstacles later_zones)
 
 later_low : (ceiling : Option Float) → Later (low_fault ceiling)
 unfolding low_fault

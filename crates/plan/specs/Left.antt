@@ -79,7 +79,8 @@ module _
   own_laid = rw (own_rings, sizes_here, coords_here) (laid_back zone.pieces (sizes_of zones ++ l.rest_sizes) (coords_of zones ++ l.rest_coords) known)
 
   rings_fit : at.piece + row.pieces ≤ length rings
-  rings_fit = omega (arith, length-drop at.piece rings, ap length rings_here, length-append (map length zone.pieces) (rings_of zones ++ l.rest_rings), count, l.piece)
+  rings_fit =
+      omega (arith, length-drop at.piece rings, ap length rings_here, length-append (map length zone.pieces) (rings_of zones ++ l.rest_rings), count, l.piece)
 
   pub own_readable : Readable rings sizes coords row at
   own_readable =
@@ -97,14 +98,17 @@ module _
   own_left_in = rw (own_row.count, own_row.pieces)
 
   own_sizes_lem : take (sum (cut at.piece row.pieces rings)) (drop at.ring sizes) ≡ sizes_in zone.pieces
-  own_sizes_lem = rw (own_rings, sizes_here) (front (sizes_in zone.pieces) (sizes_of zones ++ l.rest_sizes) (sum (map length zone.pieces)) (sizes_count zone.pieces))
+  own_sizes_lem =
+      rw (own_rings, sizes_here) (front (sizes_in zone.pieces) (sizes_of zones ++ l.rest_sizes) (sum (map length zone.pieces)) (sizes_count zone.pieces))
 
   -- the zones behind it
   pub left_next : Left s rows rings sizes coords zones (past_row rings sizes row at)
   unfolding past_row
   left_next =
-      let es : at.ring + length (take (sum (cut at.piece row.pieces rings)) (drop at.ring sizes)) ≡ at.ring + length (sizes_in zone.pieces) = rw own_sizes_lem in
-      let ec : at.coord + sum (take (sum (cut at.piece row.pieces rings)) (drop at.ring sizes)) * 2 ≡ at.coord + length (coords_in zone.pieces) = rw (own_sizes_lem, coords_count zone.pieces known) in
+      let es : at.ring + length (take (sum (cut at.piece row.pieces rings)) (drop at.ring sizes)) ≡ at.ring + length (sizes_in zone.pieces) =
+      rw own_sizes_lem in
+      let ec : at.coord + sum (take (sum (cut at.piece row.pieces rings)) (drop at.ring sizes)) * 2 ≡ at.coord + length (coords_in zone.pieces) =
+      rw (own_sizes_lem, coords_count zone.pieces known) in
       record {
         are_rows = others;
         rest_rings = l.rest_rings;
@@ -114,36 +118,52 @@ module _
         in_sizes = rw es (behind sizes at.ring (sizes_in zone.pieces) (sizes_of zones ++ l.rest_sizes) sizes_here);
         in_coords = rw ec (behind coords at.coord (coords_in zone.pieces) (coords_of zones ++ l.rest_coords) coords_here);
         piece = rings_fit;
-        ring = rw es (omega (arith, length-drop at.ring sizes, ap length sizes_here, length-append (sizes_in zone.pieces) (sizes_of zones ++ l.rest_sizes), l.ring));
-        coord = rw ec (omega (arith, length-drop at.coord coords, ap length coords_here, length-append (coords_in zone.pieces) (coords_of zones ++ l.rest_coords), l.coord));
+        ring =
+            let joined = length-append (sizes_in zone.pieces) (sizes_of zones ++ l.rest_sizes) in
+            rw es (omega (arith, length-drop at.ring sizes, ap length sizes_here, joined, l.ring));
+        coord =
+            let joined = length-append (coords_in zone.pieces) (coords_of zones ++ l.rest_coords) in
+            rw ec (omega (arith, length-drop at.coord coords, ap length coords_here, joined, l.coord));
         known = l.known.1;
       }
 
 -- ---- all zones
 
 pub all_readable :
-    (s : List ℕ) (rows : List Row) (rings sizes : List ℕ) (coords : List Float) (zones : List Zone) (at : Offsets) → Left s rows rings sizes coords zones at → EachRow rings sizes (Readable rings sizes coords) rows at
+    (s : List ℕ) (rows : List Row) (rings sizes : List ℕ) (coords : List Float) (zones : List Zone) (at : Offsets) → Left s rows rings sizes coords zones at
+    → EachRow rings sizes (Readable rings sizes coords) rows at
 unfolding EachRow AreRows
 all_readable s [] rings sizes coords zones at l = tt
 all_readable s (row ∷ rows) rings sizes coords [] at l = absurd l.are_rows
-all_readable s (row ∷ rows) rings sizes coords (zone ∷ zones) at l =
-    (own_readable s row rows rings sizes coords zone zones at l, all_readable s rows rings sizes coords zones (past_row rings sizes row at) (left_next s row rows rings sizes coords zone zones at l))
+all_readable s (row ∷ rows) rings sizes coords (zone ∷ zones) at l = (
+  own_readable s row rows rings sizes coords zone zones at l,
+  all_readable s rows rings sizes coords zones (past_row rings sizes row at) (left_next s row rows rings sizes coords zone zones at l),
+)
 
 -- a walk over the rows is one over the zones, where each row's view is the zone's
 pub flat_zones :
     {A : Type 0} (view : Row → Offsets → List A) (own : Zone → List A) (s rings sizes : List ℕ) (coords : List Float)
-    → ((row : Row) (rows : List Row) (zone : Zone) (zones : List Zone) (at : Offsets) → Left s (row ∷ rows) rings sizes coords (zone ∷ zones) at → view row at ≡ own zone)
+    → ((row : Row) (rows : List Row) (zone : Zone) (zones : List Zone) (at : Offsets)
+    → Left s (row ∷ rows) rings sizes coords (zone ∷ zones) at → view row at ≡ own zone)
     → (rows : List Row) (zones : List Zone) (at : Offsets) → Left s rows rings sizes coords zones at → flat_rows rings sizes view rows at ≡ flat_map own zones
 unfolding flat_rows flat_map AreRows
 flat_zones view own s rings sizes coords same [] [] at l = refl
 flat_zones view own s rings sizes coords same [] (zone ∷ zones) at l = absurd l.are_rows
 flat_zones view own s rings sizes coords same (row ∷ rows) [] at l = absurd l.are_rows
 flat_zones view own s rings sizes coords same (row ∷ rows) (zone ∷ zones) at l =
-    rw (same row rows zone zones at l, flat_zones view own s rings sizes coords same rows zones (past_row rings sizes row at) (left_next s row rows rings sizes coords zone zones at l))
+    rw (
+      same row rows zone zones at l,
+      flat_zones view own s rings sizes coords same rows zones (past_row rings sizes row at) (left_next s row rows rings sizes coords zone zones at l),
+    )
 
 -- the quotas of all pieces
-pub shares_are : (s : List ℕ) (rows : List Row) (rings sizes : List ℕ) (coords : List Float) (zones : List Zone) (at : Offsets) → Left s rows rings sizes coords zones at → flat_rows rings sizes (shares_at rings sizes coords) rows at ≡ flat_map quotas zones
+pub shares_are :
+    (s : List ℕ) (rows : List Row) (rings sizes : List ℕ) (coords : List Float) (zones : List Zone) (at : Offsets) → Left s rows rings sizes coords zones at
+    → flat_rows rings sizes (shares_at rings sizes coords) rows at ≡ flat_map quotas zones
 shares_are s rows rings sizes coords zones at l = flat_zones (shares_at rings sizes coords) quotas s rings sizes coords same rows zones at l
   where
-    same : (row : Row) (rows : List Row) (zone : Zone) (zones : List Zone) (at : Offsets) → Left s (row ∷ rows) rings sizes coords (zone ∷ zones) at → shares_at rings sizes coords row at ≡ quotas zone
-    same row rows zone zones at l = unfold shares_at quotas in rw (own_pieces s row rows rings sizes coords zone zones at l, (own_row s row rows rings sizes coords zone zones at l).count)
+    same :
+        (row : Row) (rows : List Row) (zone : Zone) (zones : List Zone) (at : Offsets) → Left s (row ∷ rows) rings sizes coords (zone ∷ zones) at
+        → shares_at rings sizes coords row at ≡ quotas zone
+    same row rows zone zones at l =
+        unfold shares_at quotas in rw (own_pieces s row rows rings sizes coords zone zones at l, (own_row s row rows rings sizes coords zone zones at l).count)

@@ -12,6 +12,7 @@ use Rattle.discs.specs.declared.rows.Offsets.{Offsets}
 use Rattle.discs.specs.declared.rows.Row.{Row}
 use Rattle.discs.specs.Region.{Zone, areas, quotas}
 use Rattle.discs.specs.PlaceGlyphs.{is_left_in}
+use Rattle.discs.specs.Pieces.{deepests_of}
 use Rattle.discs.specs.Floor.{cut, past_row, Handed, handed_at, handed_from}
 use Rattle.plan.specs.Found.{found_in}
 use Rattle.plan.specs.Shares.{length_apportion}
@@ -26,7 +27,7 @@ found_of options zone = found_in options (is_left_in zone) zone.pieces (quotas z
 
 -- a zone as it is handed in
 abbrev pub own_of : GlyphOptions → Zone → Handed
-own_of options zone = record { zone = zone; quotas = quotas zone; deepests = found_of options zone }
+own_of options zone = record { zone = zone; quotas = quotas zone; deepests = deepests_of (found_of options zone) }
 
 pub length_quotas : (zone : Zone) → length (quotas zone) ≡ length zone.pieces
 unfolding quotas
@@ -44,7 +45,8 @@ pub record Filled (options : GlyphOptions) (shares : List ℕ) (deepest : List D
   pub in_deepest : drop at.piece deepest ≡ flat_map (found_of options) zones ++ rest_deepest
 
 module _
-    (options : GlyphOptions) (s : List ℕ) (row : Row) (rows : List Row) (rings sizes : List ℕ) (coords : List Float) (shares : List ℕ) (deepest : List Deepest) (zone : Zone) (zones : List Zone) (at : Offsets)
+    (options : GlyphOptions) (s : List ℕ) (row : Row) (rows : List Row) (rings sizes : List ℕ) (coords : List Float) (shares : List ℕ) (deepest : List Deepest)
+    (zone : Zone) (zones : List Zone) (at : Offsets)
     (l : Left s (row ∷ rows) rings sizes coords (zone ∷ zones) at) (f : Filled options shares deepest (zone ∷ zones) at) where
   shares_here : drop at.piece shares ≡ quotas zone ++ (flat_map quotas zones ++ f.rest_shares)
   unfolding flat_map
@@ -75,7 +77,8 @@ module _
   filled_next =
       let p = past_piece rings sizes row at in
       let e : (past_row rings sizes row at).piece ≡ at.piece + length (quotas zone) = p ∙ ap (λ (n : ℕ). at.piece + n) (sym (length_quotas zone ∙ few)) in
-      let d : (past_row rings sizes row at).piece ≡ at.piece + length (found_of options zone) = p ∙ ap (λ (n : ℕ). at.piece + n) (sym (length_found_of options zone ∙ few)) in
+      let d : (past_row rings sizes row at).piece ≡ at.piece + length (found_of options zone) =
+      p ∙ ap (λ (n : ℕ). at.piece + n) (sym (length_found_of options zone ∙ few)) in
       record {
         rest_shares = f.rest_shares;
         rest_deepest = f.rest_deepest;
@@ -85,7 +88,8 @@ module _
 
 -- all zones are handed in as their own
 pub handed_zones :
-    (options : GlyphOptions) (s : List ℕ) (rows : List Row) (rings sizes : List ℕ) (coords : List Float) (shares : List ℕ) (deepest : List Deepest) (zones : List Zone) (at : Offsets)
+    (options : GlyphOptions) (s : List ℕ) (rows : List Row) (rings sizes : List ℕ) (coords : List Float) (shares : List ℕ) (deepest : List Deepest)
+    (zones : List Zone) (at : Offsets)
     → Left s rows rings sizes coords zones at → Filled options shares deepest zones at
     → handed_from s rings sizes coords shares deepest rows at ≡ map (own_of options) zones
 unfolding handed_from AreRows
@@ -95,4 +99,5 @@ handed_zones options s (row ∷ rows) rings sizes coords shares deepest [] at l 
 handed_zones options s (row ∷ rows) rings sizes coords shares deepest (zone ∷ zones) at l f =
     rw (handed_own options s row rows rings sizes coords shares deepest zone zones at l f)
     (ap (λ (t : List Handed). own_of options zone ∷ t)
-    (handed_zones options s rows rings sizes coords shares deepest zones (past_row rings sizes row at) (left_next s row rows rings sizes coords zone zones at l) (filled_next options s row rows rings sizes coords shares deepest zone zones at l f)))
+    (handed_zones options s rows rings sizes coords shares deepest zones (past_row rings sizes row at) (left_next s row rows rings sizes coords zone zones at l)
+    (filled_next options s row rows rings sizes coords shares deepest zone zones at l f)))

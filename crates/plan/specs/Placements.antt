@@ -40,20 +40,25 @@ module _ (sizing : Option Size) (options : GlyphOptions) (obstacles : List Recta
 -- a zone's own packing is the definition's
 pub place_own :
     (sizing : Option Size) (options : GlyphOptions) (obstacles : List Rectangle) (zone : Zone) → OwnPacking 1600 options (own_of options zone)
-    → placement_for sizing options obstacles (own_of options zone) ≡ placement_of (placed_of sizing options obstacles zone)
+    → placement_for source sizing options obstacles (own_of options zone) ≡ placement_of (placed_of sizing options obstacles zone)
 unfolding placement_for placement_of placed_of place_for
 place_own None options obstacles zone o = refl
-place_own (Some size) options obstacles zone o = rw (pack_own 1600 options source (context_at options (pack options) size.radius) obstacles (own_of options zone) o)
+place_own (Some size) options obstacles zone o =
+    rw (pack_own 1600 options source (context_at options (pack options) size.radius) obstacles (own_of options zone) o)
 
 module _
-    (sizing : Option Size) (options : GlyphOptions) (obstacles : List Rectangle) (s rings sizes : List ℕ) (coords : List Float) (shares : List ℕ) (deepest : List Deepest)
-    (own : (zone : Zone) → is_left_in zone ≡ true → all had_room (found_of options zone) ≡ true → placement_for sizing options obstacles (own_of options zone) ≡ placement_of (placed_of sizing options obstacles zone)) where
+    (sizing : Option Size) (options : GlyphOptions) (obstacles : List Rectangle) (s rings sizes : List ℕ) (coords : List Float) (shares : List ℕ)
+    (deepest : List Deepest)
+    (own :
+    (zone : Zone) → is_left_in zone ≡ true → all had_room (found_of options zone) ≡ true
+    → placement_for source sizing options obstacles (own_of options zone) ≡ placement_of (placed_of sizing options obstacles zone)) where
   abbrev put : Zone → Placement
   put zone = placement_of (placed_of sizing options obstacles zone)
 
   one_placed :
-      (zone : Zone) (work : List Zone) (rest : List Placement) (b : Bool) → is_left_in zone ≡ b → all had_room (found_of options zone) ≡ true → rest ≡ map put work
-      → cond b (placement_for sizing options obstacles (own_of options zone) ∷ []) [] ++ rest ≡ map put (cond b (zone ∷ work) work)
+      (zone : Zone) (work : List Zone) (rest : List Placement) (b : Bool) → is_left_in zone ≡ b → all had_room (found_of options zone) ≡ true
+      → rest ≡ map put work
+      → cond b (placement_for source sizing options obstacles (own_of options zone) ∷ []) [] ++ rest ≡ map put (cond b (zone ∷ work) work)
   one_placed zone work rest true e h r = rw (own zone e h, r)
   one_placed zone work rest false e h r = r
 
@@ -66,7 +71,7 @@ module _
   pub placed_are :
       (rows : List Row) (zones : List Zone) (at : Offsets) → Left s rows rings sizes coords zones at → Filled options shares deepest zones at
       → all (λ (zone : Zone). all had_room (found_of options zone)) zones ≡ true
-      → flat_rows rings sizes (placed_at sizing options obstacles s rings sizes coords shares deepest) rows at ≡ map put (work_of zones)
+      → flat_rows rings sizes (placed_at source sizing options obstacles s rings sizes coords shares deepest) rows at ≡ map put (work_of zones)
   unfolding flat_rows placed_at work_of AreRows
   placed_are [] [] at l f h = refl
   placed_are [] (zone ∷ zones) at l f h = absurd l.are_rows
@@ -76,4 +81,5 @@ module _
       let next = past_row rings sizes row at in
       rw (own_left_in s row rows rings sizes coords zone zones at l, handed_own options s row rows rings sizes coords shares deepest zone zones at l f)
       (one_placed zone (work_of zones) _ (is_left_in zone) refl p.0
-      (placed_are rows zones next (left_next s row rows rings sizes coords zone zones at l) (filled_next options s row rows rings sizes coords shares deepest zone zones at l f) p.1))
+      (placed_are rows zones next (left_next s row rows rings sizes coords zone zones at l)
+      (filled_next options s row rows rings sizes coords shares deepest zone zones at l f) p.1))

@@ -15,28 +15,30 @@ use Rattle.discs.specs.Region.{placed_in}
 use Rattle.discs.specs.Radius.{context_at}
 use Rattle.discs.specs.PlaceGlyphs.{pack}
 use Rattle.discs.specs.Floor.{Handed, handed_at, pack_handed, row_is_left_in}
-use Rattle.relax.specs.Scatter.{source}
+use Rattle.relax.specs.declared.Spreading.{Spreading}
 
 -- the spots of each piece of a zone; none without a size
-unfoldable pub place_for : Option Size → GlyphOptions → List Rectangle → Handed → List (List Point)
-place_for None options obstacles handed = []
-place_for (Some size) options obstacles handed = pack_handed source options (context_at options (pack options) size.radius) obstacles handed
+unfoldable pub place_for : Spreading → Option Size → GlyphOptions → List Rectangle → Handed → List (List Point)
+place_for numbers None options obstacles handed = []
+place_for numbers (Some size) options obstacles handed = pack_handed numbers options (context_at options (pack options) size.radius) obstacles handed
 
-unfoldable pub placement_for : Option Size → GlyphOptions → List Rectangle → Handed → Placement
-placement_for sizing options obstacles handed =
+unfoldable pub placement_for : Spreading → Option Size → GlyphOptions → List Rectangle → Handed → Placement
+placement_for numbers sizing options obstacles handed =
     record {
       key = handed.zone.key;
-      unplaced = handed.zone.count - placed_in (place_for sizing options obstacles handed);
-      spots = flat (flatten (place_for sizing options obstacles handed));
+      unplaced = handed.zone.count - placed_in (place_for numbers sizing options obstacles handed);
+      spots = flat (flatten (place_for numbers sizing options obstacles handed));
     }
 
-module _ (sizing : Option Size) (options : GlyphOptions) (obstacles : List Rectangle) (s rings sizes : List ℕ) (coords : List Float) (quotas : List ℕ) (deepest : List Deepest) where
+module _
+    (numbers : Spreading) (sizing : Option Size) (options : GlyphOptions) (obstacles : List Rectangle) (s rings sizes : List ℕ) (coords : List Float)
+    (quotas : List ℕ) (deepest : List Deepest) where
   abbrev pub spots_at : Row → Offsets → List (List Point)
-  spots_at row at = place_for sizing options obstacles (handed_at s rings sizes coords quotas deepest row at)
+  spots_at row at = place_for numbers sizing options obstacles (handed_at s rings sizes coords quotas deepest row at)
 
   -- a zone of the sheet, where it is left in
   unfoldable pub placed_at : Row → Offsets → List Placement
-  placed_at row at = cond (row_is_left_in row) (placement_for sizing options obstacles (handed_at s rings sizes coords quotas deepest row at) ∷ []) []
+  placed_at row at = cond (row_is_left_in row) (placement_for numbers sizing options obstacles (handed_at s rings sizes coords quotas deepest row at) ∷ []) []
 
   unfoldable pub bytes_at : Row → Offsets → List ℕ
   bytes_at row at = flat_map placement_bytes (placed_at row at)

@@ -54,11 +54,16 @@ left_read s ok rings sizes coords =
 
 module _ (options : GlyphOptions) (s rings sizes : List ℕ) (coords : List Float) (shares : List ℕ) (deepest : List Deepest) where
   found_own :
-      (row : Row) (rows : List Row) (zone : Zone) (zones : List Zone) (at : Offsets) → Left s (row ∷ rows) rings sizes coords (zone ∷ zones) at → Filled options shares deepest (zone ∷ zones) at
+      (row : Row) (rows : List Row) (zone : Zone) (zones : List Zone) (at : Offsets) → Left s (row ∷ rows) rings sizes coords (zone ∷ zones) at
+      → Filled options shares deepest (zone ∷ zones) at
       → found_at rings sizes coords options shares row at ≡ found_of options zone
   unfolding found_at found_of
   found_own row rows zone zones at l f =
-      rw (own_left_in s row rows rings sizes coords zone zones at l, own_pieces s row rows rings sizes coords zone zones at l, own_shares options s row rows rings sizes coords shares deepest zone zones at l f)
+      rw (
+        own_left_in s row rows rings sizes coords zone zones at l,
+        own_pieces s row rows rings sizes coords zone zones at l,
+        own_shares options s row rows rings sizes coords shares deepest zone zones at l f,
+      )
 
   pub founds_are :
       (rows : List Row) (zones : List Zone) (at : Offsets) → Left s rows rings sizes coords zones at → Filled options shares deepest zones at
@@ -68,7 +73,11 @@ module _ (options : GlyphOptions) (s rings sizes : List ℕ) (coords : List Floa
   founds_are [] (zone ∷ zones) at l f = absurd l.are_rows
   founds_are (row ∷ rows) [] at l f = absurd l.are_rows
   founds_are (row ∷ rows) (zone ∷ zones) at l f =
-      rw (found_own row rows zone zones at l f, founds_are rows zones (past_row rings sizes row at) (left_next s row rows rings sizes coords zone zones at l) (filled_next options s row rows rings sizes coords shares deepest zone zones at l f))
+      rw (
+        found_own row rows zone zones at l f,
+        founds_are rows zones (past_row rings sizes row at) (left_next s row rows rings sizes coords zone zones at l)
+            (filled_next options s row rows rings sizes coords shares deepest zone zones at l f),
+      )
 
   pub fits_are :
       (rows : List Row) (zones : List Zone) (at : Offsets) → Left s rows rings sizes coords zones at → Filled options shares deepest zones at
@@ -78,7 +87,11 @@ module _ (options : GlyphOptions) (s rings sizes : List ℕ) (coords : List Floa
   fits_are [] (zone ∷ zones) at l f = absurd l.are_rows
   fits_are (row ∷ rows) [] at l f = absurd l.are_rows
   fits_are (row ∷ rows) (zone ∷ zones) at l f =
-      rw (found_own row rows zone zones at l f, fits_are rows zones (past_row rings sizes row at) (left_next s row rows rings sizes coords zone zones at l) (filled_next options s row rows rings sizes coords shares deepest zone zones at l f))
+      rw (
+        found_own row rows zone zones at l f,
+        fits_are rows zones (past_row rings sizes row at) (left_next s row rows rings sizes coords zone zones at l)
+            (filled_next options s row rows rings sizes coords shares deepest zone zones at l f),
+      )
 
 -- ---- row 15
 
@@ -88,7 +101,8 @@ left_out_fits options [] shares = refl
 left_out_fits options (piece ∷ pieces) [] = refl
 left_out_fits options (piece ∷ pieces) (share ∷ shares) = left_out_fits options pieces shares
 
-pub left_in_found : (options : GlyphOptions) (pieces : List Piece) (shares : List ℕ) → found_in options true pieces shares ≡ searches_in 1600 options pieces shares
+pub left_in_found :
+    (options : GlyphOptions) (pieces : List Piece) (shares : List ℕ) → found_in options true pieces shares ≡ searches_in 1600 options pieces shares
 unfolding found_in found_for searches_in
 left_in_found options [] shares = refl
 left_in_found options (piece ∷ pieces) [] = refl
@@ -101,7 +115,9 @@ all_fit options zones = all (λ (zone : Zone). all had_room (found_of options zo
 abbrev work_fits : GlyphOptions → List Zone → Bool
 work_fits options work = all (λ (zone : Zone). all had_room (searches_in 1600 options zone.pieces (quotas zone))) work
 
-one_more : (options : GlyphOptions) (zone : Zone) (zones : List Zone) (b : Bool) → is_left_in zone ≡ b → all_fit options zones ≡ work_fits options (work_of zones) → all_fit options (zone ∷ zones) ≡ work_fits options (work_of (zone ∷ zones))
+one_more :
+    (options : GlyphOptions) (zone : Zone) (zones : List Zone) (b : Bool) → is_left_in zone ≡ b → all_fit options zones ≡ work_fits options (work_of zones)
+    → all_fit options (zone ∷ zones) ≡ work_fits options (work_of (zone ∷ zones))
 unfolding all work_of found_of
 one_more options zone zones true e later = rw (e, left_in_found options zone.pieces (quotas zone), later)
 one_more options zone zones false e later = rw (e, left_out_fits options zone.pieces (quotas zone), later)

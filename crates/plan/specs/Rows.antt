@@ -1,10 +1,11 @@
 -- The walk over a job's zones in flat slices: what is put and asked for each, and what is known of each. Definitions, and one turn of the walk.
 -- Rests on the kit's laws of lists.
 use Rattle.std.specs.Prelude.{ℕ, suc, ◌+◌, ◌-◌, ◌<◌, ◌≤◌, ◌≡◌, refl, Bool, true, false, ◌&&◌, take, drop, Float}
-use Rattle.std.proofs.Common.{ap, ◌∙◌, arith, add-one, drop-cons, drop_of_length-le, length-drop, length-take-le, get_or}
-use mathlib.Core.List.{List, [], ◌∷◌, ◌++◌}
+use Rattle.std.proofs.Common.{sym, ap, ◌∙◌, arith, add-one, drop-cons, drop-drop, drop_of_length-le, length-drop, length-take-le, get_or}
+use mathlib.Core.List.{List, [], ◌∷◌, ◌++◌, append_assoc}
+use native.Mathlib.Bridge.{le_prop}
 use Rattle.std.proofs.Math.ListN.{length, length-append}
-use Rattle.std.proofs.lemmas.List.Edits.{sets}
+use Rattle.std.proofs.lemmas.List.Edits.{sets, sets-eq}
 use Rattle.laws.specs.Any.{all}
 use Rattle.glyphs.specs.Apportion.{apportion}
 use Rattle.regions.specs.Ring.{Piece}
@@ -14,9 +15,9 @@ use Rattle.discs.specs.declared.options.GlyphOptions.{GlyphOptions}
 use Rattle.discs.specs.declared.rows.Row.{Row}
 use Rattle.discs.specs.declared.rows.Offsets.{Offsets}
 use Rattle.discs.specs.Region.{areas}
-use Rattle.discs.specs.Pieces.{pieces_of, Laid}
+use Rattle.discs.specs.Pieces.{pieces_of, Laid, laid_prop}
 use Rattle.discs.specs.Searches.{had_room}
-use Rattle.discs.specs.Floor.{row_is_left_in, cut, past_row, EachRow}
+use Rattle.discs.specs.Floor.{row_is_left_in, cut, start, past_row, EachRow}
 use Rattle.job.specs.Job.{row_room, rows_room}
 use Rattle.plan.specs.Found.{found_in}
 use Rattle.plan.specs.Walk.{length_pieces}
@@ -30,6 +31,30 @@ pub record Readable (rings sizes : List ℕ) (coords : List Float) (row : Row) (
   pub laid : Laid (cut at.piece row.pieces rings) (drop at.ring sizes) (drop at.coord coords)
   pub few : row.pieces ≤ 16
   pub marks : row.count ≤ 2000
+
+-- each zone's do
+abbrev pub AllReadable : List ℕ → List ℕ → List Float → List Row → Type 0
+AllReadable rings sizes coords rows = EachRow rings sizes (Readable rings sizes coords) rows start
+
+readable_prop : (rings sizes : List ℕ) (coords : List Float) (row : Row) (at : Offsets) → IsProp (Readable rings sizes coords row at)
+readable_prop rings sizes coords row at a b = λ i. record {
+  ringed = le_prop a.ringed b.ringed i;
+  sized = le_prop a.sized b.sized i;
+  within = le_prop a.within b.within i;
+  laid = laid_prop (cut at.piece row.pieces rings) (drop at.ring sizes) (drop at.coord coords) a.laid b.laid i;
+  few = le_prop a.few b.few i;
+  marks = le_prop a.marks b.marks i;
+}
+
+-- that all are readable is a fact that has one proof at most
+each_prop : (rings sizes : List ℕ) (coords : List Float) (rows : List Row) (at : Offsets) → IsProp (EachRow rings sizes (Readable rings sizes coords) rows at)
+unfolding EachRow
+each_prop rings sizes coords [] at a b = λ i. tt
+each_prop rings sizes coords (row ∷ rows) at a b =
+    λ i. (readable_prop rings sizes coords row at a.0 b.0 i, each_prop rings sizes coords rows (past_row rings sizes row at) a.1 b.1 i)
+
+pub rows_prop : (rings sizes : List ℕ) (coords : List Float) (rows : List Row) → IsProp (AllReadable rings sizes coords rows)
+rows_prop rings sizes coords rows = each_prop rings sizes coords rows start
 
 module _ (rings sizes : List ℕ) where
   -- what the zones of these rows have, end to end
@@ -66,7 +91,15 @@ cut_is p n l = let e : p + n - p ≡ n = omega arith in rw e
 pub length_cut : {A : Type 0} (p n : ℕ) (l : List A) → p + n ≤ length l → length (cut p n l) ≡ n
 length_cut p n l h = length-take-le n (drop p l) (simp length-drop (omega arith))
 
-pub length_found : (options : GlyphOptions) (left_in : Bool) (pieces : List Piece) (quotas : List ℕ) → length pieces ≤ length quotas → length (found_in options left_in pieces quotas) ≡ length pieces
+-- a part that is lent, and comes back with other elements
+pub part_put : {A : Type 0} (l xs : List A) (p n : ℕ) → length xs ≡ n → p + n ≤ length l → take p l ++ (xs ++ drop (p + n - p) (drop p l)) ≡ sets l p xs
+part_put l xs p n e h =
+    let k : p + n - p ≡ length xs = omega (arith, e) in
+    rw (k, drop-drop (length xs) p l) (sym (sets-eq xs l p (omega (arith, e, h)) ∙ append_assoc (take p l) xs (drop (p + length xs) l)))
+
+pub length_found :
+    (options : GlyphOptions) (left_in : Bool) (pieces : List Piece) (quotas : List ℕ) → length pieces ≤ length quotas
+    → length (found_in options left_in pieces quotas) ≡ length pieces
 unfolding found_in
 length_found options left_in [] quotas h = refl
 length_found options left_in (piece ∷ pieces) [] h = absurd (omega arith)
@@ -80,10 +113,13 @@ module _ (rings sizes : List ℕ) (coords : List Float) (row : Row) (at : Offset
       ∙ length_areas (cut at.piece row.pieces rings) (drop at.ring sizes) (drop at.coord coords)
       ∙ length_cut at.piece row.pieces rings h
 
-  pub length_found_at : (options : GlyphOptions) (quotas : List ℕ) → at.piece + row.pieces ≤ length quotas → length (found_at rings sizes coords options quotas row at) ≡ row.pieces
+  pub length_found_at :
+      (options : GlyphOptions) (quotas : List ℕ) → at.piece + row.pieces ≤ length quotas
+      → length (found_at rings sizes coords options quotas row at) ≡ row.pieces
   unfolding found_at
   length_found_at options quotas q =
-      let p : length (pieces_at rings sizes coords row at) ≡ row.pieces = length_pieces (cut at.piece row.pieces rings) (drop at.ring sizes) (drop at.coord coords) ∙ length_cut at.piece row.pieces rings h in
+      let p : length (pieces_at rings sizes coords row at) ≡ row.pieces =
+      length_pieces (cut at.piece row.pieces rings) (drop at.ring sizes) (drop at.coord coords) ∙ length_cut at.piece row.pieces rings h in
       let n = length_cut at.piece row.pieces quotas q in
       length_found options (row_is_left_in row) (pieces_at rings sizes coords row at) (cut at.piece row.pieces quotas) (omega arith) ∙ p
 
@@ -106,20 +142,25 @@ module _ (rings sizes : List ℕ) (rows : List Row) (k : ℕ) (at : Offsets) whe
     first : drop k rows ≡ get_or rows k no_row ∷ drop (k + 1) rows
     first = rw (add-one k) (drop-cons rows k no_row h)
 
-    pub each_turn : (P : Row → Offsets → Type 0) → EachRow rings sizes P (drop k rows) at → P (get_or rows k no_row) at × EachRow rings sizes P (drop (k + 1) rows) (past_row rings sizes (get_or rows k no_row) at)
+    pub each_turn :
+        (P : Row → Offsets → Type 0) → EachRow rings sizes P (drop k rows) at
+        → P (get_or rows k no_row) at × EachRow rings sizes P (drop (k + 1) rows) (past_row rings sizes (get_or rows k no_row) at)
     unfolding EachRow
     each_turn P r = rw first at r
 
     pub flat_turn :
-        {A : Type 0} {x : List A} (view : Row → Offsets → List A) (l next : List A) (j m : ℕ) → m ≡ j + length (view (get_or rows k no_row) at) → next ≡ sets l j (view (get_or rows k no_row) at)
-        → x ≡ sets l j (flat_rows rings sizes view (drop k rows) at) → x ≡ sets next m (flat_rows rings sizes view (drop (k + 1) rows) (past_row rings sizes (get_or rows k no_row) at))
+        {A : Type 0} {x : List A} (view : Row → Offsets → List A) (l next : List A) (j m : ℕ) → m ≡ j + length (view (get_or rows k no_row) at)
+        → next ≡ sets l j (view (get_or rows k no_row) at)
+        → x ≡ sets l j (flat_rows rings sizes view (drop k rows) at)
+        → x ≡ sets next m (flat_rows rings sizes view (drop (k + 1) rows) (past_row rings sizes (get_or rows k no_row) at))
     unfolding flat_rows
     flat_turn view l next j m i f g =
         g ∙ rw first (sets_append l j (view row at) (flat_rows rings sizes view rest (past_row rings sizes row at)) ∙ rw (f, i))
 
     pub length_turn :
         {A : Type 0} {x : ℕ} (view : Row → Offsets → List A) (j m : ℕ) → m ≡ j + length (view (get_or rows k no_row) at)
-        → x ≡ j + length (flat_rows rings sizes view (drop k rows) at) → x ≡ m + length (flat_rows rings sizes view (drop (k + 1) rows) (past_row rings sizes (get_or rows k no_row) at))
+        → x ≡ j + length (flat_rows rings sizes view (drop k rows) at)
+        → x ≡ m + length (flat_rows rings sizes view (drop (k + 1) rows) (past_row rings sizes (get_or rows k no_row) at))
     unfolding flat_rows
     length_turn view j m i g =
         let r = flat_rows rings sizes view rest (past_row rings sizes row at) in
@@ -131,12 +172,14 @@ module _ (rings sizes : List ℕ) (rows : List Row) (k : ℕ) (at : Offsets) whe
     unfolding all_rows
     all_turn test f g = g ∙ rw (first, f)
 
-    pub all_stop : {x : Bool} (test : Row → Offsets → Bool) → test (get_or rows k no_row) at ≡ false → x ≡ all_rows rings sizes test (drop k rows) at → x ≡ false
+    pub all_stop :
+        {x : Bool} (test : Row → Offsets → Bool) → test (get_or rows k no_row) at ≡ false → x ≡ all_rows rings sizes test (drop k rows) at → x ≡ false
     unfolding all_rows
     all_stop test f g = g ∙ rw (first, f)
 
   module _ (h : length rows ≤ k) where
-    pub flat_end : {A : Type 0} {x : List A} (view : Row → Offsets → List A) (l : List A) (j : ℕ) → x ≡ sets l j (flat_rows rings sizes view (drop k rows) at) → x ≡ l
+    pub flat_end :
+        {A : Type 0} {x : List A} (view : Row → Offsets → List A) (l : List A) (j : ℕ) → x ≡ sets l j (flat_rows rings sizes view (drop k rows) at) → x ≡ l
     unfolding flat_rows
     flat_end view l j g = g ∙ rw (drop_of_length-le rows h)
 

@@ -35,10 +35,15 @@ module _ (rings sizes : List ℕ) (coords : List Float) where
       (areas₀ areas₁ : List Float) → length rings ≤ length areas₀ → areas₁ ≡ sets areas₀ 0 (areas (pieces_of rings sizes coords))
       → take (length rings) areas₁ ≡ areas (pieces_of rings sizes coords)
   areas_front areas₀ areas₁ h e =
-      rw (e, sets_written (areas (pieces_of rings sizes coords)) areas₀ (rw length_areas h)) (front_is (areas (pieces_of rings sizes coords)) areas₀ (length rings) length_areas)
+      let own = areas (pieces_of rings sizes coords) in
+      rw (e, sets_written own areas₀ (rw length_areas h)) (front_is own areas₀ (length rings) length_areas)
 
   pub shares_front :
-      (count : ℕ) (front : List Float) (shares₀ shares₁ : List ℕ) → front ≡ areas (pieces_of rings sizes coords) → shares₁ ≡ written (apportion count front) shares₀
+      (count : ℕ) (front : List Float) (shares₀ shares₁ : List ℕ) → front ≡ areas (pieces_of rings sizes coords)
+      → shares₁ ≡ written (apportion count front) shares₀
       → take (length rings) shares₁ ≡ apportion count (areas (pieces_of rings sizes coords))
   shares_front count front shares₀ shares₁ e f =
       rw (f, e) (front_is (apportion count (areas (pieces_of rings sizes coords))) shares₀ (length rings) (length_apportion count _ ∙ length_areas))
+
+  pub length_shared : (count : ℕ) → length (apportion count (areas (pieces_of rings sizes coords))) ≡ length rings
+  length_shared count = length_apportion count (areas (pieces_of rings sizes coords)) ∙ length_areas

@@ -11,6 +11,7 @@ use Rattle.glyphs.specs.declared.rect.Rectangle.{Rectangle}
 use Rattle.sheet.specs.Sheet.{Placement, placement_bytes, sheet_head, sheet_of}
 use Rattle.sheet.specs.Back.{length_sheet_head}
 use Rattle.sheet.proofs.Laws.{put_sheet}
+use Rattle.relax.specs.declared.Spreading.{Spreading}
 use Rattle.deepest.specs.declared.search.Deepest.{Deepest}
 use Rattle.discs.specs.declared.rows.Row.{Row}
 use Rattle.discs.specs.declared.radius.Size.{Size}
@@ -25,18 +26,22 @@ unfolding flat_map
 flat_join f [] ys = refl
 flat_join f (x ∷ xs) ys = ap (λ (t : List _). f x ++ t) (flat_join f xs ys) ∙ sym (append_assoc (f x) (flat_map f xs) (flat_map f ys))
 
-module _ (sizing : Option Size) (options : GlyphOptions) (obstacles : List Rectangle) (s rings sizes : List ℕ) (coords : List Float) (quotas : List ℕ) (deepest : List Deepest) where
+module _
+    (numbers : Spreading) (sizing : Option Size) (options : GlyphOptions) (obstacles : List Rectangle) (s rings sizes : List ℕ) (coords : List Float)
+    (quotas : List ℕ) (deepest : List Deepest) where
   pub bytes_flat :
       (rows : List Row) (at : Offsets)
-      → flat_rows rings sizes (bytes_at sizing options obstacles s rings sizes coords quotas deepest) rows at
-      ≡ flat_map placement_bytes (flat_rows rings sizes (placed_at sizing options obstacles s rings sizes coords quotas deepest) rows at)
+      → flat_rows rings sizes (bytes_at numbers sizing options obstacles s rings sizes coords quotas deepest) rows at
+      ≡ flat_map placement_bytes (flat_rows rings sizes (placed_at numbers sizing options obstacles s rings sizes coords quotas deepest) rows at)
   unfolding flat_rows bytes_at
   bytes_flat [] at = unfold flat_map in refl
   bytes_flat (row ∷ rows) at =
       rw (bytes_flat rows (past_row rings sizes row at))
-      (sym (flat_join placement_bytes (placed_at sizing options obstacles s rings sizes coords quotas deepest row at) (flat_rows rings sizes (placed_at sizing options obstacles s rings sizes coords quotas deepest) rows (past_row rings sizes row at))))
+      (sym (flat_join placement_bytes (placed_at numbers sizing options obstacles s rings sizes coords quotas deepest row at)
+      (flat_rows rings sizes (placed_at numbers sizing options obstacles s rings sizes coords quotas deepest) rows (past_row rings sizes row at))))
 
-pub sheet_long : (radius : Float) (zones : List Placement) → length (sheet_of (record { radius = radius; zones = zones })) ≡ 15 + length (flat_map placement_bytes zones)
+pub sheet_long :
+    (radius : Float) (zones : List Placement) → length (sheet_of (record { radius = radius; zones = zones })) ≡ 15 + length (flat_map placement_bytes zones)
 unfolding sheet_of
 sheet_long radius zones =
     let body = flat_map placement_bytes zones in
@@ -44,7 +49,8 @@ sheet_long radius zones =
     omega (arith, length-append head body, length_sheet_head (11 + length body) radius (length zones))
 
 pub sheet_put :
-    (l₀ l₁ l₂ : List ℕ) (radius : Float) (zones : List Placement) (bytes : List ℕ) (at count : ℕ) → bytes ≡ flat_map placement_bytes zones → Put bytes 15 at l₀ l₁ → count ≡ length zones
+    (l₀ l₁ l₂ : List ℕ) (radius : Float) (zones : List Placement) (bytes : List ℕ) (at count : ℕ) → bytes ≡ flat_map placement_bytes zones
+    → Put bytes 15 at l₀ l₁ → count ≡ length zones
     → at ≤ length l₀ → l₂ ≡ sets l₁ 0 (sheet_head (at - 4) radius count)
     → (at ≡ length (sheet_of (record { radius = radius; zones = zones }))) × (l₂ ≡ written (sheet_of (record { radius = radius; zones = zones })) l₀)
 sheet_put l₀ l₁ l₂ radius zones bytes at count b p c h e =

@@ -4,7 +4,6 @@ use Prim.Native.Nat.{ℕ, zero, suc, ◌+◌}
 use Rattle.std.specs.Prelude.{◌≡◌, Bool, true, false, cond, ◌||◌, length, ltb, Float}
 use Rattle.std.proofs.Math.Path.{refl}
 use mathlib.Core.List.{List, [], ◌∷◌}
-use Rattle.std.specs.Float.Ieee
 use Rattle.laws.specs.Any.{all}
 use Rattle.laws.specs.Truth.{both_true}
 use Rattle.float.specs.Ops.{◌-ᶠ◌, ◌/ᶠ◌, ◌>ᶠ◌, ◌≤ᶠ◌, 0ᶠ, 2ᶠ}
@@ -14,11 +13,13 @@ use Rattle.glyphs.specs.Bounds.{extents_of}
 use Rattle.glyphs.specs.declared.bounds.Extents.{Extents}
 use Rattle.regions.specs.Ring.{Piece, outer}
 use Rattle.deepest.specs.Order.{halves_from}
-use Rattle.deepest.specs.Deepest.{Grid, waiting, over, heft, sum_over, better_of, answer_of, first_corner, splits_at, grid_from, enter_four, turns, finish, centre_of, search_in, deepest_point, deeper_of, poi_with_holes}
+use Rattle.deepest.specs.Deepest.{Grid, waiting, over, heft, sum_over, better_of, answer_of, first_corner, splits_at, grid_from, enter_four, turns, finish}
+use Rattle.deepest.specs.Deepest.{centre_of, search_in, deepest_point, deeper_of, poi_with_holes}
 use Rattle.deepest.specs.declared.queue.Cell.{Cell}
 use Rattle.deepest.specs.declared.search.Best.{Best}
 use Rattle.deepest.specs.declared.search.Deepest.{Deepest}
 use Rattle.deepest.specs.declared.search.Deepest.TheVariants.{Found, Nothing, Full}
+use Rattle.discs.specs.Pieces.{deepest_from, deepests_of}
 use Rattle.discs.specs.Region.{deepest_of}
 use Rattle.discs.specs.Searches.{is_searched, searched, searches_in, had_room}
 use Rattle.discs.specs.declared.options.GlyphOptions.{GlyphOptions}
@@ -91,12 +92,29 @@ module _ (options : GlyphOptions) where
   searched_sound : (piece : Piece) (quota : ℕ) → Sound (searched 1600 options piece quota)
   unfolding searched poi_with_holes deeper_of
   searched_sound piece quota =
-      sound_cond (is_searched options.radius options.arrangement piece quota) (deepest_of 1600 options piece) Nothing (point_sound 1600 options.precision piece) sound_nothing
+      sound_cond (is_searched options.radius options.arrangement piece quota) (deepest_of 1600 options piece) Nothing
+      (point_sound 1600 options.precision piece) sound_nothing
 
-  pub all_sound : (pieces : List Piece) (shares : List ℕ) → all had_room (searches_in 1600 options pieces shares) ≡ true → all sound (searches_in 1600 options pieces shares) ≡ true
+  pub all_sound :
+      (pieces : List Piece) (shares : List ℕ) → all had_room (searches_in 1600 options pieces shares) ≡ true
+      → all sound (searches_in 1600 options pieces shares) ≡ true
   unfolding all searches_in
   all_sound [] shares h = refl
   all_sound (piece ∷ pieces) [] h = refl
   all_sound (piece ∷ pieces) (share ∷ shares) h =
       let p = both_true (had_room (searched 1600 options piece share)) (all had_room (searches_in 1600 options pieces shares)) h in
       rw (searched_sound piece share p.0, all_sound pieces shares p.1)
+
+read_back : (found : Deepest) → sound found ≡ true → deepest_from found ≡ found
+unfolding sound deepest_from
+read_back Nothing h = refl
+read_back Full h = refl
+read_back (Found x y clearance) h = rw h
+
+-- what is sound is read as it is
+pub points_back : (founds : List Deepest) → all sound founds ≡ true → deepests_of founds ≡ founds
+unfolding all
+points_back [] h = refl
+points_back (found ∷ founds) h =
+    let p = both_true (sound found) (all sound founds) h in
+    rw (read_back found p.0, points_back founds p.1)

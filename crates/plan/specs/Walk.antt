@@ -1,11 +1,12 @@
--- One turn of a walk over pieces: the piece at hand, and those behind it.
+-- One turn of a walk over pieces: the piece at hand, its rings within the slice, and those behind it.
 -- Rests on the kit's laws of lists.
-use Rattle.std.specs.Prelude.{ℕ, suc, ◌+◌, ◌-◌, ◌*◌, ◌≡◌, refl, Bool, true, false, length, take, drop, set, Float}
+use Rattle.std.specs.Prelude.{ℕ, suc, ◌+◌, ◌-◌, ◌*◌, ◌<◌, ◌≤◌, ◌≡◌, refl, Bool, true, false, length, get_or, take, drop, set, Float}
 use Rattle.std.proofs.Common.{ap, ◌∙◌, arith, take_all}
 use mathlib.Core.List.{List, [], ◌∷◌}
 use mathlib.Core.Logic.{◌⊎◌, inl, inr}
 use Rattle.std.proofs.Math.Numerals.{add-one}
 use Rattle.std.proofs.Math.ListN.{length-drop}
+use Rattle.std.proofs.Math.Seq.{drop-cons}
 use Rattle.std.proofs.lemmas.List.Edits.{sets}
 use Rattle.laws.specs.Any.{all}
 use Rattle.regions.specs.Ring.{Piece, sum}
@@ -13,7 +14,7 @@ use Rattle.regions.specs.Area.{piece_area}
 use Rattle.deepest.specs.declared.search.Deepest.{Deepest}
 use Rattle.discs.specs.declared.options.GlyphOptions.{GlyphOptions}
 use Rattle.discs.specs.Region.{areas}
-use Rattle.discs.specs.Pieces.{pieces_of}
+use Rattle.discs.specs.Pieces.{pieces_of, Laid}
 use Rattle.discs.specs.Searches.{had_room}
 use Rattle.plan.specs.Found.{found_for, found_in}
 
@@ -28,6 +29,15 @@ pub length_pieces : (rings sizes : List ℕ) (coords : List Float) → length (p
 unfolding pieces_of
 length_pieces [] sizes coords = refl
 length_pieces (n ∷ rings) sizes coords = ap suc (length_pieces rings (drop n sizes) (drop (sum (take n sizes) * 2) coords))
+
+-- the rings of the piece k, of pieces that lie in slices from a on
+pub ring_inside :
+    (rings sizes : List ℕ) (coords : List Float) (k a : ℕ) → k < length rings → a ≤ length sizes → Laid (drop k rings) (drop a sizes) coords
+    → a + get_or rings k 0 ≤ length sizes
+unfolding Laid
+ring_inside rings sizes coords k a h i l =
+    let lies = (rw (drop-cons rings k 0 h) at l).0 in
+    omega (arith, lies.sized, length-drop a sizes)
 
 pub none_left : {A : Type 0} (xs : List A) → length xs ≡ 0 → xs ≡ []
 none_left [] h = refl
@@ -44,11 +54,14 @@ areas_end ps out k e = rw e
 -- of the pieces ps, the first and the others
 module _ (ps ps' : List Piece) (piece : Piece) (ep : ps ≡ piece ∷ ps') where
   pub areas_turn :
-      {x : List Float} (out : List Float) (j k k' : ℕ) (v : Float) → v ≡ piece_area piece → j ≡ k → k' ≡ k + 1 → x ≡ sets out k (areas ps) → x ≡ sets (set out j v) k' (areas ps')
+      {x : List Float} (out : List Float) (j k k' : ℕ) (v : Float) → v ≡ piece_area piece → j ≡ k → k' ≡ k + 1 → x ≡ sets out k (areas ps)
+      → x ≡ sets (set out j v) k' (areas ps')
   areas_turn out j k k' v h i n e = e ∙ rw (ep, ← h, i, n, add-one k)
 
   -- the same of the searches, with the quotas
-  module _ (options : GlyphOptions) (left_in : Bool) (qs qs' : List ℕ) (quota : ℕ) (eq : qs ≡ quota ∷ qs') (found : Deepest) (f : found ≡ found_for options left_in piece quota) where
+  module _
+      (options : GlyphOptions) (left_in : Bool) (qs qs' : List ℕ) (quota : ℕ) (eq : qs ≡ quota ∷ qs') (found : Deepest)
+      (f : found ≡ found_for options left_in piece quota) where
     found_turn : found_in options left_in ps qs ≡ found ∷ found_in options left_in ps' qs'
     unfolding found_in
     found_turn = rw (ep, eq, f)

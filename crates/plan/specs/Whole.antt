@@ -52,27 +52,33 @@ use Rattle.plan.specs.Made.{Roomy, ceiling_is, sizing_is}
 
 -- where there is a size, the packing is the zone's own
 put_own :
-    (options : GlyphOptions) (fits : List Rectangle → Float → Bool) (pillars obstacles : List Rectangle) (zone : Zone) → is_left_in zone ≡ true → all had_room (found_of options zone) ≡ true
+    (options : GlyphOptions) (fits : List Rectangle → Float → Bool) (pillars obstacles : List Rectangle) (zone : Zone) → is_left_in zone ≡ true
+    → all had_room (found_of options zone) ≡ true
     → (radius : Radius) → options.radius ≡ radius → (top : Option Float)
-    → placement_for (size_for fits pillars radius top) options obstacles (own_of options zone) ≡ placement_of (placed_of (size_for fits pillars radius top) options obstacles zone)
+    → placement_for source (size_for fits pillars radius top) options obstacles (own_of options zone)
+    ≡ placement_of (placed_of (size_for fits pillars radius top) options obstacles zone)
 unfolding size_for
 put_own options fits pillars obstacles zone l h = go
   where
-    none : placement_for None options obstacles (own_of options zone) ≡ placement_of (placed_of None options obstacles zone)
+    none : placement_for source None options obstacles (own_of options zone) ≡ placement_of (placed_of None options obstacles zone)
     none = unfold placement_for placement_of placed_of place_for in refl
 
-    some : (size : Size) → packs_at options.radius ≡ true → placement_for (Some size) options obstacles (own_of options zone) ≡ placement_of (placed_of (Some size) options obstacles zone)
+    some :
+        (size : Size) → packs_at options.radius ≡ true
+        → placement_for source (Some size) options obstacles (own_of options zone) ≡ placement_of (placed_of (Some size) options obstacles zone)
     some size p = place_own (Some size) options obstacles zone (packing_own options zone p l h)
 
     stated :
         (r : Float) → options.radius ≡ Stated r → (b : Bool) → (r >ᶠ 0ᶠ && is_finite r) ≡ b → (size : Size)
-        → placement_for (cond b (Some size) None) options obstacles (own_of options zone) ≡ placement_of (placed_of (cond b (Some size) None) options obstacles zone)
+        → placement_for source (cond b (Some size) None) options obstacles (own_of options zone)
+        ≡ placement_of (placed_of (cond b (Some size) None) options obstacles zone)
     stated r e true p size = some size (unfold packs_at in rw e (both_true (r >ᶠ 0ᶠ) (is_finite r) p).0)
     stated r e false p size = none
 
     go :
         (radius : Radius) → options.radius ≡ radius → (top : Option Float)
-        → placement_for (size_for fits pillars radius top) options obstacles (own_of options zone) ≡ placement_of (placed_of (size_for fits pillars radius top) options obstacles zone)
+        → placement_for source (size_for fits pillars radius top) options obstacles (own_of options zone)
+        ≡ placement_of (placed_of (size_for fits pillars radius top) options obstacles zone)
     go Auto e None = unfold size_for in none
     go Auto e (Some r-hi) = unfold size_for in some _ (unfold packs_at in rw e)
     go (Stated r) e top = unfold size_for in stated r e (r >ᶠ 0ᶠ && is_finite r) refl _
@@ -94,7 +100,10 @@ unfolding share Ieee.of_int Ieee.div Ieee.round Ieee.size Ieee.units Ieee.of_bit
 share_none = refl
 
 share_some : (n : ℕ) → suc n ≤ 1048576 → share (suc n) >ᶠ 0ᶠ ≡ true
-share_some n h = is_true _ (≺→lt 0ᶠ (share (suc n)) zero_num (share_exact (suc n) (omega arith)).num (rw zero_val (above (val (share (suc n))) n (2 ^ 1064) (pow_pos 1064) (share_value (suc n) (omega arith)))))
+share_some n h =
+    is_true _
+    (≺→lt 0ᶠ (share (suc n)) zero_num (share_exact (suc n) (omega arith)).num
+    (rw zero_val (above (val (share (suc n))) n (2 ^ 1064) (pow_pos 1064) (share_value (suc n) (omega arith)))))
   where
     above : (v : Exact) (n g : ℕ) → 0 < g → v ≈ nat (suc n * g) → nat 0 ≺ v
     above v n g p e = omega arith
@@ -122,7 +131,10 @@ module _ (r : Float) (s : Shares 0 1048576 r) where
   unfolding size_for size_of
   stated_size fits pillars top = rw (finite_is r stated_num, max_zero_same r stated_num stated_nonneg) (go (r >ᶠ 0ᶠ) refl)
     where
-      go : (b : Bool) → r >ᶠ 0ᶠ ≡ b → ◌≡◌ {A = Size} (size_of (cond (b && true) (Some (record { radius = r; free_trials = 0; obstacle_trials = 0 })) None)) (record { radius = r; free_trials = 0; obstacle_trials = 0 })
+      go :
+          (b : Bool) → r >ᶠ 0ᶠ ≡ b
+          → ◌≡◌ {A = Size} (size_of (cond (b && true) (Some (record { radius = r; free_trials = 0; obstacle_trials = 0 })) None))
+          (record { radius = r; free_trials = 0; obstacle_trials = 0 })
       go true e = unfold size_of in refl
       go false e = unfold size_of in rw (not_above e)
 
@@ -146,16 +158,20 @@ module _ (options : GlyphOptions) (given : List Rectangle) (zones : List Zone) w
 
   size_alone :
       (radius : Radius) → RadiusKnown radius → (fits : List Rectangle → Float → Bool) (gap precision : Float)
-      → ◌≡◌ {A = Size} (size_of (size_for fits (sanitize_obstacles given) radius (analytic_r_hi room [] gap precision))) (record { radius = stated_radius room source options given zones radius; free_trials = 0; obstacle_trials = 0 })
+      → ◌≡◌ {A = Size} (size_of (size_for fits (sanitize_obstacles given) radius (analytic_r_hi room [] gap precision)))
+      (record { radius = stated_radius room source options given zones radius; free_trials = 0; obstacle_trials = 0 })
   size_alone Auto k fits gap precision =
       unfold analytic_r_hi if_positive size_for size_of in rw (endless, max_zero_same 0ᶠ zero_num (rw zero_val (omega arith)))
   size_alone (Stated r) k fits gap precision = stated_size r k fits (sanitize_obstacles given) (analytic_r_hi room [] gap precision)
 
   alone : RadiusKnown options.radius → work_of zones ≡ []
-      → ◌≡◌ {A = Placements} (record { radius = stated_radius room source options given zones options.radius; free_trials = 0; obstacle_trials = 0; zones = [] }) (made (sizing room source options given zones))
+      → ◌≡◌ {A = Placements}
+      (record { radius = stated_radius room source options given zones options.radius; free_trials = 0; obstacle_trials = 0; zones = [] })
+      (made (sizing room source options given zones))
   unfolding made
   alone k e =
-      let n : ◌≡◌ {A = Size} (size_of (sizing room source options given zones)) (record { radius = stated_radius room source options given zones options.radius; free_trials = 0; obstacle_trials = 0 }) =
+      let n : ◌≡◌ {A = Size} (size_of (sizing room source options given zones))
+      (record { radius = stated_radius room source options given zones options.radius; free_trials = 0; obstacle_trials = 0 }) =
       unfold sizing in rw e (size_alone options.radius k _ _ _) in
       rw (n, e)
 
@@ -169,29 +185,33 @@ module _ (options : GlyphOptions) (given : List Rectangle) (zones : List Zone) w
 
       go :
           (b : Bool) → (T b → length (work_of zones) ≡ 0)
-          → ◌≡◌ {A = Placements} (cond b (record { radius = stated_radius room source options given zones options.radius; free_trials = 0; obstacle_trials = 0; zones = [] }) (pack_at room source options given zones (sizing room source options given zones)))
+          → ◌≡◌ {A = Placements}
+          (cond b (record { radius = stated_radius room source options given zones options.radius; free_trials = 0; obstacle_trials = 0; zones = [] })
+          (pack_at room source options given zones (sizing room source options given zones)))
           (made (sizing room source options given zones))
       go true e = alone k (nothing (work_of zones) (e tt))
       go false e = packed (sizing room source options given zones)
 
 -- ---- a job as it lies in the slices, each of whose searches had room
 module _
-    (s : List ℕ) (rows : List Row) (rings sizes : List ℕ) (coords : List Float) (shares : List ℕ) (deepest : List Deepest) (job : Job) (k : RadiusKnown job.options.radius) (r : Roomy job.options job.zones)
+    (s : List ℕ) (rows : List Row) (rings sizes : List ℕ) (coords : List Float) (shares : List ℕ) (deepest : List Deepest) (job : Job)
+    (k : RadiusKnown job.options.radius) (r : Roomy job.options job.zones)
     (l : Left s rows rings sizes coords job.zones start) (f : Filled job.options shares deepest job.zones start) where
   abbrev given : List Rectangle
   given = rectangles job.obstacles
 
   abbrev pub sized : Option Size
-  sized = sizing_for job.options (sanitize_obstacles (rectangles job.obstacles)) (work_in s rows rings sizes coords shares deepest)
+  sized = sizing_for source job.options (sanitize_obstacles (rectangles job.obstacles)) (work_in s rows rings sizes coords shares deepest)
 
   abbrev pub put : List Placement
-  put = flat_rows rings sizes (placed_at sized job.options (sanitize_obstacles (rectangles job.obstacles)) s rings sizes coords shares deepest) rows start
+  put =
+      flat_rows rings sizes (placed_at source sized job.options (sanitize_obstacles (rectangles job.obstacles)) s rings sizes coords shares deepest) rows start
 
   work_is : work_in s rows rings sizes coords shares deepest ≡ handed_work (map (own_of job.options) job.zones)
   work_is = ap handed_work (handed_zones job.options s rows rings sizes coords shares deepest job.zones start l f)
 
   size_is : sized ≡ sizing room source job.options given job.zones
-  size_is = ap (λ (hs : List Handed). sizing_for job.options (sanitize_obstacles given) hs) work_is ∙ sizing_is job.options job.zones r given
+  size_is = ap (λ (hs : List Handed). sizing_for source job.options (sanitize_obstacles given) hs) work_is ∙ sizing_is job.options job.zones r given
 
   -- row 16
   pub low_is : low_fault (ceiling_for job.options (work_in s rows rings sizes coords shares deepest) job.options.radius) ≡ ceiling_fault job
@@ -209,7 +229,8 @@ module _
     where
       own :
           (zone : Zone) → is_left_in zone ≡ true → all had_room (found_of job.options zone) ≡ true
-          → placement_for sized job.options (sanitize_obstacles given) (own_of job.options zone) ≡ placement_of (placed_of sized job.options (sanitize_obstacles given) zone)
+          → placement_for source sized job.options (sanitize_obstacles given) (own_of job.options zone)
+          ≡ placement_of (placed_of sized job.options (sanitize_obstacles given) zone)
       own zone i h = unfold sizing_for in put_own job.options _ (sanitize_obstacles given) (sanitize_obstacles given) zone i h job.options.radius refl _
 
   -- the sheet

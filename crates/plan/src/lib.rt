@@ -11,22 +11,28 @@ ghost use Rattle.plan.specs.Called.{items_number, Answered, answer_of};
 pub mod answer;
 pub mod clear;
 pub mod floor;
+pub mod layout;
+pub mod memory;
 pub mod parts;
 pub mod pillars;
 pub mod rows;
 pub mod searches;
+pub mod setting;
 pub mod shares;
 pub mod zones;
 
 use crate::answer::Planned;
 use crate::clear::clear;
+use crate::layout::{Layout, ReadJob};
+use crate::memory::{Memory, Scratch};
 use crate::rows::plan_zones;
 use arrayvec::ArrayVec;
 use deepest::search::Deepest;
 use discs::rows::Row;
-use format::pieces::Pieces;
+use format::pieces::JobPieces;
 use format::reader::Reader;
 use format::refusal::Refusal;
+use glyphs::rect::Rectangle;
 use job::head::{check_work, open};
 use job::read::read_items;
 use job::room::sheet_room;
@@ -37,75 +43,71 @@ fn plan_items(
     first: &mut [f64],
     second: &mut [f64],
     sheet: &mut [u8],
-    obstacles: &mut ArrayVec<f64, 256>,
-    pieces: &mut Pieces,
-    rows: &mut [Row],
-    quotas: &mut [usize],
-    deepest: &mut [Deepest],
-    pillars: &mut [f64],
-    near: &mut [f64],
-    flags: &mut [bool],
+    memory: &mut Memory,
 ) -> Result<Planned, Refusal>
-    requires { (job.at ≡ version_at) × (length job.bytes.now ≤ 65536) × (length first.old ≡ 8000) × (length second.old ≡ 8000) × (obstacles.old.items ≡ []) × (pieces.old.coords.items ≡ []) × (pieces.old.sizes.items ≡ []) × (pieces.old.rings.items ≡ []) × (length rows.old ≡ 64) × (length quotas.old ≡ 1024) × (length deepest.old ≡ 1024) × (length pillars.old ≡ 256) × (length near.old ≡ 256) × (length flags.old ≡ 2000) }
+    requires at { job.at ≡ version_at }
+    requires bytes { length job.bytes.now ≤ 65536 }
+    requires first { length first.old ≡ 8000 }
+    requires second { length second.old ≡ 8000 }
+    requires obstacles { memory.old.obstacles.items ≡ [] }
+    requires coords { memory.old.pieces.coords.items ≡ [] }
+    requires sizes { memory.old.pieces.sizes.items ≡ [] }
+    requires rings { memory.old.pieces.rings.items ≡ [] }
     ensures { Answered (items_number job.entry.bytes.now (length sheet.old)) (job_of job.entry.bytes.now) (answer_in result) sheet.old sheet.new }
 {
-    let items = read_items(&mut job, obstacles, pieces, rows)?;
-    let rows = &rows[..items.zones];
+    let items = read_items(
+        &mut job,
+        &mut memory.obstacles,
+        &mut memory.pieces,
+        &mut memory.rows[..],
+    )?;
+    let rows = &memory.rows[..items.zones];
     let fits = sheet_room(rows) <= sheet.len();
     if !fits {
         return Err(Refusal::SheetLength);
     }
-    plan_zones(
-        items.options,
-        obstacles.as_slice(),
-        job.bytes,
+    let layout = Layout {
         rows,
-        pieces.rings.as_slice(),
-        pieces.sizes.as_slice(),
-        pieces.coords.as_slice(),
-        quotas,
-        deepest,
-        pillars,
-        near,
-        first,
-        second,
-        flags,
-        sheet,
-    )
+        rings: memory.pieces.rings.as_slice(),
+        sizes: memory.pieces.sizes.as_slice(),
+        coords: memory.pieces.coords.as_slice(),
+    };
+    let job = ReadJob {
+        bytes: job.bytes,
+        options: items.options,
+        obstacles: memory.obstacles.as_slice(),
+        layout,
+    };
+    plan_zones(job, &mut memory.scratch, first, second, sheet)
 }
 
-// The same, with what the reader and the pre-pass fill.
+// The same, with the memory that is not lent.
 fn plan_job(
     job: Reader,
     first: &mut [f64],
     second: &mut [f64],
     sheet: &mut [u8],
 ) -> Result<Planned, Refusal>
-    requires { (job.at ≡ version_at) × (length job.bytes.now ≤ 65536) × (length first.old ≡ 8000) × (length second.old ≡ 8000) }
+    requires at { job.at ≡ version_at }
+    requires bytes { length job.bytes.now ≤ 65536 }
+    requires first { length first.old ≡ 8000 }
+    requires second { length second.old ≡ 8000 }
     ensures { Answered (items_number job.entry.bytes.now (length sheet.old)) (job_of job.entry.bytes.now) (answer_in result) sheet.old sheet.new }
 {
-    let mut obstacles = ArrayVec::new();
-    let mut pieces = Pieces::new();
-    let mut rows = [Row::EMPTY; 64];
-    let mut quotas = [0usize; 1024];
-    let mut deepest = [Deepest::Nothing; 1024];
-    let mut pillars = [0.0; 256];
-    let mut near = [0.0; 256];
-    let mut flags = [false; 2000];
-    plan_items(
-        job,
-        first,
-        second,
-        sheet,
-        &mut obstacles,
-        &mut pieces,
-        &mut rows,
-        &mut quotas,
-        &mut deepest,
-        &mut pillars,
-        &mut near,
-        &mut flags,
-    )
+    // All of it is zeros, which are set where they lie: another deepest point, say none, would be made elsewhere and copied.
+    let mut memory = Memory {
+        obstacles: ArrayVec::new(),
+        pieces: JobPieces::new(),
+        rows: [Row::EMPTY; 64],
+        scratch: Scratch {
+            quotas: [0; 1024],
+            deepest: [Deepest::Found(0.0, 0.0, 0.0); 1024],
+            pillars: ArrayVec::new(),
+            near: [Rectangle::default(); 64],
+            flags: [false; 2000],
+        },
+    };
+    plan_items(job, first, second, sheet, &mut memory)
 }
 
 // The call: reads the job, and writes its sheet to the front of `sheet`.
@@ -116,7 +118,9 @@ pub fn plan(
     sheet: &mut [u8],
 ) -> Result<Planned, Refusal>
     ensures answer { answer_in result ≡ answer_of (plan_of s.now first.old second.old sheet.old) }
-    ensures lent { (first.new ≡ (plan_of s.now first.old second.old sheet.old).first) × (second.new ≡ (plan_of s.now first.old second.old sheet.old).second) × (sheet.new ≡ (plan_of s.now first.old second.old sheet.old).sheet) }
+    ensures first { first.new ≡ (plan_of s.now first.old second.old sheet.old).first }
+    ensures second { second.new ≡ (plan_of s.now first.old second.old sheet.old).second }
+    ensures sheet { sheet.new ≡ (plan_of s.now first.old second.old sheet.old).sheet }
 {
     let job = open(s)?;
     check_work(first.len(), second.len())?;

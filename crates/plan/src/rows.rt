@@ -1,70 +1,88 @@
-// A job that was read into flat slices: rows 15 and 16, and the sheet.
-ghost use Rattle.std.specs.Prelude.{◌≡◌, ◌+◌, ◌*◌, ◌≤◌, length};
-ghost use Rattle.format.specs.Rows.{◌or_else◌};
+// A job that was read: rows 15 and 16, and the sheet.
+ghost use Rattle.std.specs.Prelude.{◌≡◌, ◌+◌, ◌≤◌, length};
 ghost use Rattle.job.specs.Job.{job_of, rows_room};
-ghost use Rattle.job.specs.Plan.{search_fault, ceiling_fault};
 ghost use Rattle.plan.specs.Answer.{answer_in};
-ghost use Rattle.plan.specs.Called.{ReadIn, Answered};
+ghost use Rattle.plan.specs.Called.{zones_number, Answered};
+ghost use Rattle.plan.specs.Bundled.{WasRead};
 
 use crate::answer::Planned;
 use crate::floor::plan_pieces;
+use crate::layout::ReadJob;
+use crate::memory::Scratch;
 use crate::pillars::sanitize_obstacles;
 use crate::searches::search_zones;
 use crate::shares::share_zones;
-use deepest::search::Deepest;
-use discs::options::GlyphOptions;
-use discs::rows::Row;
+use discs::bundle::{Lent, Packing, Work, Zones};
 use format::refusal::Refusal;
+use glyphs::rect::Rectangle;
+use relax::Spreading;
 
-// Rows 15 and 16, and the sheet, of a job that was read into the flat slices.
+// What a packing is lent, as long as the shortest of the four.
+fn lend<'a>(
+    near: &'a mut [Rectangle],
+    second: &'a mut [f64],
+    flags: &'a mut [bool],
+    spots: &'a mut [f64],
+) -> Work<'a>
+    requires second { 4000 ≤ length second.old }
+    requires flags { 2000 ≤ length flags.old }
+    requires spots { 4000 ≤ length spots.old }
+    ensures { length result.lent.near.now ≡ length near.old }
+{
+    Work {
+        lent: Lent {
+            near,
+            second,
+            flags,
+        },
+        spots,
+    }
+}
+
+// Rows 15 and 16, and the sheet, of a job that was read.
 pub fn plan_zones(
-    options: GlyphOptions,
-    obstacles: &[f64],
-    s: &[u8],
-    rows: &[Row],
-    rings: &[usize],
-    sizes: &[usize],
-    coords: &[f64],
-    quotas: &mut [usize],
-    deepest: &mut [Deepest],
-    pillars: &mut [f64],
-    near: &mut [f64],
+    job: ReadJob<'_, '_>,
+    scratch: &mut Scratch,
     first: &mut [f64],
     second: &mut [f64],
-    flags: &mut [bool],
     sheet: &mut [u8],
 ) -> Result<Planned, Refusal>
-    requires { ReadIn s.now options obstacles.now rows.now rings.now sizes.now coords.now × (length rows.now ≤ 64) × (length rings.now ≤ 1024) × (length quotas.old ≡ 1024) × (length deepest.old ≡ 1024) × (length obstacles.now ≤ 256) × (256 ≤ length pillars.old) × (256 ≤ length near.old) × (length first.old ≡ 8000) × (length second.old ≡ 8000) × (length flags.old ≡ 2000) × (15 + rows_room rows.now ≤ length sheet.old) }
-    ensures { Answered (search_fault (job_of s.now) or_else ceiling_fault (job_of s.now)) (job_of s.now) (answer_in result) sheet.old sheet.new }
+    requires read { WasRead job }
+    requires zones { length job.layout.rows.now ≤ 64 }
+    requires pieces { length job.layout.rings.now ≤ 1024 }
+    requires obstacles { length job.obstacles.now ≤ 64 }
+    requires first { length first.old ≡ 8000 }
+    requires second { length second.old ≡ 8000 }
+    requires room { 15 + rows_room job.layout.rows.now ≤ length sheet.old }
+    ensures { Answered (zones_number (job_of job.entry.bytes.now)) (job_of job.entry.bytes.now) (answer_in result) sheet.old sheet.new }
 {
-    share_zones(rows, rings, sizes, coords, &mut quotas[..]);
+    let layout = job.layout;
+    share_zones(layout, &mut scratch.quotas[..]);
     if !search_zones(
-        options,
-        rows,
-        rings,
-        sizes,
-        coords,
-        quotas,
+        job.options,
+        layout,
+        &scratch.quotas[..],
         &mut first[..],
-        &mut deepest[..],
+        &mut scratch.deepest[..],
     ) {
         return Err(Refusal::SearchRoom);
     }
-    let m = sanitize_obstacles(obstacles, &mut pillars[..]) * 4;
-    plan_pieces(
-        options,
-        &pillars[..m],
-        s,
-        rows,
-        rings,
-        sizes,
-        coords,
-        quotas,
-        deepest,
-        &mut near[..],
-        &mut second[..],
-        &mut flags[..],
-        &mut first[..],
-        &mut sheet[..],
-    )
+    scratch.pillars.clear();
+    sanitize_obstacles(job.obstacles, &mut scratch.pillars);
+    let packing = Packing {
+        numbers: Spreading::SOURCE,
+        options: job.options,
+        obstacles: scratch.pillars.as_slice(),
+    };
+    let zones = Zones {
+        bytes: job.bytes,
+        rows: layout.rows,
+        rings: layout.rings,
+        sizes: layout.sizes,
+        coords: layout.coords,
+        quotas: &scratch.quotas[..],
+        deepest: &scratch.deepest[..],
+    };
+    let mut work = lend(&mut scratch.near[..], second, &mut scratch.flags[..], first);
+    plan_pieces(packing, zones, &mut work, sheet)
 }

@@ -1,17 +1,18 @@
 // The deepest points that the reference searches for, each found once.
 ghost use Rattle.std.specs.Prelude.{◌≡◌, ◌+◌, ◌≤◌, length};
-ghost use Rattle.laws.specs.Any.{all};
 ghost use Rattle.regions.specs.Pieces.{rings_of};
 ghost use Rattle.discs.specs.Slices.{pieces_left};
 ghost use Rattle.discs.specs.Searches.{starts_deepest, is_searched, had_room};
-ghost use Rattle.discs.specs.Floor.{EachRow, start};
-ghost use Rattle.plan.specs.Rows.{Readable, flat_rows, all_rows, fits_at, found_at};
-ghost use Rattle.plan.specs.Found.{found_for, found_in, Searched};
+ghost use Rattle.plan.specs.Rows.{Readable};
+ghost use Rattle.plan.specs.Found.{found_for, found_in, Searched, PiecesSearched};
+ghost use Rattle.plan.specs.Bundled.{zone_found, all_fit, all_found};
 
+use crate::layout::Layout;
+use crate::parts::part;
 use deepest::search::{Deepest, deepest_point};
 use discs::options::{GlyphOptions, Radius};
 use discs::pieces::Pieces;
-use discs::rows::{Offsets, Row, is_left_in, past_row, pieces_at};
+use discs::rows::{Offsets, Row, is_left_in};
 use glyphs::options::GlyphArrangement;
 use lattice::uniform::piece_bounds;
 use regions::piece::RegionPiece;
@@ -40,7 +41,7 @@ fn is_searched(options: GlyphOptions, piece: RegionPiece<'_>, quota: usize) -> b
     }
 }
 
-// The deepest point of a piece, where its zone is left in and it is searched for.
+// The deepest point of a piece; none where its zone is left out, which is the row's to say, or where it is not searched for.
 fn search_piece(
     options: GlyphOptions,
     left_in: bool,
@@ -70,7 +71,8 @@ fn had_room(found: Deepest) -> bool
     }
 }
 
-// Puts the deepest points of pieces from `start` on; false where one search had no room.
+// Puts the deepest points of pieces from `start` on; false where one search had no room. By an index: of what is written
+// through a zip nothing is known after it.
 fn search_pieces(
     options: GlyphOptions,
     left_in: bool,
@@ -80,8 +82,9 @@ fn search_pieces(
     deepest: &mut [Deepest],
     start: usize,
 ) -> bool
-    requires { (length cells.old ≡ 8000) × (start + length pieces.rings.now ≤ length deepest.old) }
-    ensures { Searched start (all had_room (found_in options left_in (pieces_left pieces.entry) quotas.now)) (found_in options left_in (pieces_left pieces.entry) quotas.now) result deepest.old deepest.new }
+    requires cells { length cells.old ≡ 8000 }
+    requires room { start + length pieces.rings.now ≤ length deepest.old }
+    ensures { PiecesSearched start (found_in options left_in (pieces_left pieces.entry) quotas.now) result deepest.old deepest.new }
 {
     let end = start + pieces.rings.len();
     for (k, (piece, quota)) in (start..end).zip(pieces.zip(quotas)) {
@@ -97,52 +100,48 @@ fn search_pieces(
 // Puts the deepest points of a zone's pieces; false where one search had no room.
 fn search_zone(
     options: GlyphOptions,
-    rings: &[usize],
-    sizes: &[usize],
-    coords: &[f64],
+    layout: Layout<'_>,
     quotas: &[usize],
     row: Row,
     at: Offsets,
     cells: &mut [f64],
     deepest: &mut [Deepest],
 ) -> bool
-    requires { Readable rings.now sizes.now coords.now row at × (length rings.now ≤ length quotas.now) × (length cells.old ≡ 8000) × (length rings.now ≤ length deepest.old) }
-    ensures { Searched at.piece (fits_at rings.now sizes.now coords.now options quotas.now row at) (found_at rings.now sizes.now coords.now options quotas.now row at) result deepest.old deepest.new }
+    requires zone { Readable layout.rings.now layout.sizes.now layout.coords.now row at }
+    requires quotas { length layout.rings.now ≤ length quotas.now }
+    requires cells { length cells.old ≡ 8000 }
+    requires room { length layout.rings.now ≤ length deepest.old }
+    ensures { PiecesSearched at.piece (zone_found layout.entry options quotas.now row at) result deepest.old deepest.new }
 {
-    let p = at.piece;
-    let q = p + row.pieces;
     search_pieces(
         options,
         is_left_in(row),
-        pieces_at(rings, sizes, coords, row, at),
-        &quotas[p..q],
+        layout.pieces(row, at),
+        part(quotas, at.piece, row.pieces),
         &mut cells[..],
         &mut deepest[..],
-        p,
+        at.piece,
     )
 }
 
 // Puts the deepest points of all pieces of the zones; false where one search had no room.
 pub fn search_zones(
     options: GlyphOptions,
-    rows: &[Row],
-    rings: &[usize],
-    sizes: &[usize],
-    coords: &[f64],
+    layout: Layout<'_>,
     quotas: &[usize],
     cells: &mut [f64],
     deepest: &mut [Deepest],
 ) -> bool
-    requires { EachRow rings.now sizes.now (Readable rings.now sizes.now coords.now) rows.now start × (length rings.now ≤ length quotas.now) × (length cells.old ≡ 8000) × (length rings.now ≤ length deepest.old) }
-    ensures { Searched 0 (all_rows rings.now sizes.now (fits_at rings.now sizes.now coords.now options quotas.now) rows.now start) (flat_rows rings.now sizes.now (found_at rings.now sizes.now coords.now options quotas.now) rows.now start) result deepest.old deepest.new }
+    requires quotas { length layout.rings.now ≤ length quotas.now }
+    requires cells { length cells.old ≡ 8000 }
+    requires room { length layout.rings.now ≤ length deepest.old }
+    ensures { Searched 0 (all_fit layout.entry options quotas.now) (all_found layout.entry options quotas.now) result deepest.old deepest.new }
 {
     let mut at = Offsets::START;
-    for row in rows {
+    for row in layout.rows {
         if !search_zone(
             options,
-            rings,
-            sizes,
-            coords,
+            layout,
             quotas,
             *row,
             at,
@@ -151,7 +150,7 @@ pub fn search_zones(
         ) {
             return false;
         }
-        at = past_row(rings, sizes, coords, *row, at);
+        at = layout.past(*row, at);
     }
     true
 }

@@ -3,7 +3,6 @@
 
 ghost use Rattle.std.specs.Prelude.{◌≡◌, ◌*◌, ◌/◌, ◌<◌, ◌≤◌, length};
 ghost use Rattle.float.specs.Ops.{◌≤ᶠ◌};
-ghost use Rattle.glyphs.specs.Rect.{rectangles};
 ghost use Rattle.glyphs.specs.Spots.{spots_of, flat};
 ghost use Rattle.regions.specs.Ring.{sum, piece_of};
 ghost use Rattle.regions.specs.Area.{piece_area};
@@ -11,7 +10,7 @@ ghost use Rattle.regions.specs.Clearance.{signed_clearance};
 ghost use Rattle.relax.specs.Scatter.{source, relax_scatter};
 
 use deepest::search::{Deepest, deepest_point};
-use glyphs::rect::{is_near, obstacle};
+use glyphs::rect::{Rectangle, is_near};
 use glyphs::spots::spot;
 use regions::four::{Four, four_clearances};
 use regions::keeps::{clearance_at_least, clears};
@@ -113,11 +112,11 @@ pub extern "C" fn probe_ring_bounds(ring: &[f64], bounds: &mut [f64; 4]) -> u8 {
 pub extern "C" fn probe_obstacles_near(
     sizes: &[usize],
     coords: &[f64],
-    obstacles: &[f64],
+    obstacles: &[Rectangle],
     clearance: f64,
     near: &mut [u8],
 ) -> u64
-    requires { (0 < length sizes.now) × (sum sizes.now * 2 ≤ length coords.now) × (length near.old ≤ length obstacles.now / 4) }
+    requires { (0 < length sizes.now) × (sum sizes.now * 2 ≤ length coords.now) × (length near.old ≤ length obstacles.now) }
 {
     let piece = RegionPiece { sizes, coords };
     let Some(extents) = glyphs::bounds::ring_bounds(piece.outer()) else {
@@ -126,7 +125,7 @@ pub extern "C" fn probe_obstacles_near(
     };
     let mut many = 0u64;
     for (k, flag) in near.iter_mut().enumerate() {
-        let found = is_near(obstacle(obstacles, k), clearance, extents);
+        let found = is_near(obstacles[k], clearance, extents);
         *flag = u8::from(found);
         many += u64::from(found);
     }
@@ -138,13 +137,16 @@ pub extern "C" fn probe_obstacles_near(
 pub extern "C" fn probe_relax_scatter(
     sizes: &[usize],
     coords: &[f64],
-    obstacles: &[f64],
+    obstacles: &[Rectangle],
     spacing: f64,
     inset: f64,
     spots: &mut [f64],
 )
-    requires { (0 < length sizes.now) × (sum sizes.now * 2 ≤ length coords.now) × (length spots.old ≡ length spots.old / 2 * 2) × (length spots.old / 2 ≤ 2000) }
-    ensures { spots.new ≡ flat (relax_scatter source (spots_of spots.old) (piece_of sizes.now coords.now) (rectangles obstacles.now) spacing inset) }
+    requires outer { 0 < length sizes.now }
+    requires within { sum sizes.now * 2 ≤ length coords.now }
+    requires whole { length spots.old ≡ length spots.old / 2 * 2 }
+    requires few { length spots.old / 2 ≤ 2000 }
+    ensures { spots.new ≡ flat (relax_scatter source (spots_of spots.old) (piece_of sizes.now coords.now) obstacles.now spacing inset) }
 {
     let n = spots.len() / 2;
     let mut unrooted = [0.0; 2000];

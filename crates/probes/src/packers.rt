@@ -4,7 +4,7 @@ ghost use Rattle.regions.specs.Ring.{sum};
 
 use deepest::search::{Deepest, deepest_point};
 use glyphs::mode::PackMode;
-use glyphs::rect::Point;
+use glyphs::rect::{Point, Rectangle};
 use glyphs::stream::Stream;
 use lattice::context::PackCtx;
 use lattice::uniform::{pack_uniform_piece, probe_uniform_piece};
@@ -12,46 +12,61 @@ use regions::piece::RegionPiece;
 use scatter::low::{lone_anchor, pack_low_discrepancy_piece};
 use scatter::random::pack_random_piece;
 
-// Radius, gap and boundary gap, with a mode.
-fn context(settings: &[f64; 4], spread: bool, strict: bool) -> PackCtx
-    ensures { (result.mode.spread ≡ spread) × (result.mode.strict_obstacles ≡ strict) }
+// What a packer is packing, as probes.h has it: an arrangement's own function says which.
+#[derive(Clone, Copy)]
+#[repr(C)]
+pub struct Packing {
+    pub radius: f64,
+    pub gap: f64,
+    pub boundary_gap: f64,
+    pub precision: f64,
+    pub quota: usize,
+    pub attempts: u32,
+    pub spread: bool,
+    pub strict: bool,
+}
+
+// What is packed at; a trial of a lattice, which is not spread, is strict.
+fn context(packing: &Packing, strict: bool) -> PackCtx
+    ensures { (result.mode.spread ≡ packing.now.spread) × (result.mode.strict_obstacles ≡ strict) }
 {
     let mode = PackMode {
-        spread,
+        spread: packing.spread,
         strict_obstacles: strict,
     };
     PackCtx {
-        r: settings[0],
-        gap: settings[1],
-        boundary_gap: settings[2],
+        r: packing.radius,
+        gap: packing.gap,
+        boundary_gap: packing.boundary_gap,
         mode,
     }
 }
 
-// The lattice packer; a trial, which is not spread, only counts, and is strict.
+// The lattice packer; a trial only counts.
 fn pack_lattice(
     rectangular: bool,
     piece: RegionPiece,
-    obstacles: &[f64],
-    settings: &[f64; 4],
-    n: usize,
-    spread: bool,
-    strict: bool,
+    obstacles: &[Rectangle],
+    packing: &Packing,
     first: &mut [f64],
     second: &mut [f64],
     spots: &mut [f64],
 ) -> usize
-    requires { (length obstacles.now ≤ 256) × (8000 ≤ length first.old) × (0 < n) × (n * 2 ≤ length second.old) × (n * 2 ≤ length spots.old) }
+    requires obstacles { length obstacles.now ≤ 64 }
+    requires first { 8000 ≤ length first.old }
+    requires some { 0 < packing.now.quota }
+    requires second { packing.now.quota * 2 ≤ length second.old }
+    requires spots { packing.now.quota * 2 ≤ length spots.old }
 {
-    let precision = settings[3];
-    let found = deepest_point(piece, precision, &mut first[..8000]);
+    let found = deepest_point(piece, packing.precision, &mut first[..8000]);
     let Deepest::Found(x, y, _) = found else {
         return 0;
     };
     let poi = Point { x, y };
-    let mut near = [0.0; 256];
-    if spread {
-        let ctx = context(settings, true, strict);
+    let n = packing.quota;
+    let mut near = [Rectangle::default(); 64];
+    if packing.spread {
+        let ctx = context(packing, packing.strict);
         return pack_uniform_piece(
             poi,
             piece,
@@ -64,7 +79,7 @@ fn pack_lattice(
             spots,
         );
     }
-    let ctx = context(settings, false, true);
+    let ctx = context(packing, true);
     probe_uniform_piece(poi, piece, n, ctx, obstacles, rectangular, &mut near[..])
 }
 
@@ -73,85 +88,70 @@ fn pack_lattice(
 pub extern "C" fn probe_pack_uniform(
     sizes: &[usize],
     coords: &[f64],
-    obstacles: &[f64],
-    settings: &[f64; 4],
-    quota: u64,
-    attempts: u32,
-    spread: u8,
-    strict: u8,
+    obstacles: &[Rectangle],
+    packing: &Packing,
     state: &mut u64,
     first: &mut [f64],
     second: &mut [f64],
+    flags: &mut [bool],
     spots: &mut [f64],
-) -> u64
-    requires { (0 < length sizes.now) × (sum sizes.now * 2 ≤ length coords.now) × (length obstacles.now ≤ 256) × (8000 ≤ length first.old) × (0 < quota) × (quota * 2 ≤ length second.old) × (quota * 2 ≤ length spots.old) }
+) -> usize
+    requires outer { 0 < length sizes.now }
+    requires within { sum sizes.now * 2 ≤ length coords.now }
+    requires obstacles { length obstacles.now ≤ 64 }
+    requires first { 8000 ≤ length first.old }
+    requires some { 0 < packing.now.quota }
+    requires second { packing.now.quota * 2 ≤ length second.old }
+    requires spots { packing.now.quota * 2 ≤ length spots.old }
 {
-    let n = quota as usize;
-    pack_lattice(
-        false,
-        RegionPiece { sizes, coords },
-        obstacles,
-        settings,
-        n,
-        spread == 1,
-        strict == 1,
-        first,
-        second,
-        spots,
-    ) as u64
+    let piece = RegionPiece { sizes, coords };
+    pack_lattice(false, piece, obstacles, packing, first, second, spots)
 }
 
 #[unsafe(no_mangle)]
 pub extern "C" fn probe_pack_rectangular(
     sizes: &[usize],
     coords: &[f64],
-    obstacles: &[f64],
-    settings: &[f64; 4],
-    quota: u64,
-    attempts: u32,
-    spread: u8,
-    strict: u8,
+    obstacles: &[Rectangle],
+    packing: &Packing,
     state: &mut u64,
     first: &mut [f64],
     second: &mut [f64],
+    flags: &mut [bool],
     spots: &mut [f64],
-) -> u64
-    requires { (0 < length sizes.now) × (sum sizes.now * 2 ≤ length coords.now) × (length obstacles.now ≤ 256) × (8000 ≤ length first.old) × (0 < quota) × (quota * 2 ≤ length second.old) × (quota * 2 ≤ length spots.old) }
+) -> usize
+    requires outer { 0 < length sizes.now }
+    requires within { sum sizes.now * 2 ≤ length coords.now }
+    requires obstacles { length obstacles.now ≤ 64 }
+    requires first { 8000 ≤ length first.old }
+    requires some { 0 < packing.now.quota }
+    requires second { packing.now.quota * 2 ≤ length second.old }
+    requires spots { packing.now.quota * 2 ≤ length spots.old }
 {
-    let n = quota as usize;
-    pack_lattice(
-        true,
-        RegionPiece { sizes, coords },
-        obstacles,
-        settings,
-        n,
-        spread == 1,
-        strict == 1,
-        first,
-        second,
-        spots,
-    ) as u64
+    let piece = RegionPiece { sizes, coords };
+    pack_lattice(true, piece, obstacles, packing, first, second, spots)
 }
 
 // The place that a lone mark tries first, from a search with room for 1,600 cells.
 fn lone_place(
     piece: RegionPiece,
-    n: usize,
-    ctx: PackCtx,
-    precision: f64,
-    obstacles: &[f64],
-    near: &mut [f64],
+    packing: &Packing,
+    obstacles: &[Rectangle],
+    near: &mut [Rectangle],
     cells: &mut [f64],
 ) -> Option<Point>
-    requires { (length obstacles.now ≤ length near.old) × (8000 ≤ length cells.old) }
+    requires near { length obstacles.now ≤ length near.old }
+    requires cells { 8000 ≤ length cells.old }
 {
+    let n = packing.quota;
     if n != 1 {
         return None;
     }
-    let found = deepest_point(piece, precision, &mut cells[..8000]);
+    let found = deepest_point(piece, packing.precision, &mut cells[..8000]);
     let Deepest::Found(x, y, _) = found else {
         return None;
     };
+    let ctx = context(packing, packing.strict);
     lone_anchor(Point { x, y }, piece, n, ctx, obstacles, near)
 }
 
@@ -159,63 +159,70 @@ fn lone_place(
 pub extern "C" fn probe_pack_low_discrepancy(
     sizes: &[usize],
     coords: &[f64],
-    obstacles: &[f64],
-    settings: &[f64; 4],
-    quota: u64,
-    attempts: u32,
-    spread: u8,
-    strict: u8,
+    obstacles: &[Rectangle],
+    packing: &Packing,
     state: &mut u64,
     first: &mut [f64],
     second: &mut [f64],
+    flags: &mut [bool],
     spots: &mut [f64],
-) -> u64
-    requires { (0 < length sizes.now) × (sum sizes.now * 2 ≤ length coords.now) × (length obstacles.now ≤ 256) × (8000 ≤ length first.old) × (quota * 2 ≤ length spots.old) }
+) -> usize
+    requires outer { 0 < length sizes.now }
+    requires within { sum sizes.now * 2 ≤ length coords.now }
+    requires obstacles { length obstacles.now ≤ 64 }
+    requires first { 8000 ≤ length first.old }
+    requires spots { packing.now.quota * 2 ≤ length spots.old }
 {
-    let ctx = context(settings, spread == 1, strict == 1);
-    let n = quota as usize;
-    let mut near = [0.0; 256];
+    let ctx = context(packing, packing.strict);
+    let mut near = [Rectangle::default(); 64];
     let piece = RegionPiece { sizes, coords };
-    let anchor = lone_place(piece, n, ctx, settings[3], obstacles, &mut near[..], first);
-    pack_low_discrepancy_piece(anchor, piece, n, ctx, obstacles, &mut near[..], spots) as u64
+    let anchor = lone_place(piece, packing, obstacles, &mut near[..], first);
+    pack_low_discrepancy_piece(
+        anchor,
+        piece,
+        packing.quota,
+        ctx,
+        obstacles,
+        &mut near[..],
+        spots,
+    )
 }
 
 #[unsafe(no_mangle)]
 pub extern "C" fn probe_pack_random(
     sizes: &[usize],
     coords: &[f64],
-    obstacles: &[f64],
-    settings: &[f64; 4],
-    quota: u64,
-    attempts: u32,
-    spread: u8,
-    strict: u8,
+    obstacles: &[Rectangle],
+    packing: &Packing,
     state: &mut u64,
     first: &mut [f64],
-    _second: &mut [f64],
+    second: &mut [f64],
+    flags: &mut [bool],
     spots: &mut [f64],
-) -> u64
-    requires { (0 < length sizes.now) × (sum sizes.now * 2 ≤ length coords.now) × (length obstacles.now ≤ 256) × (quota ≤ length first.old) × (quota ≤ length _second.old) × (quota * 2 ≤ length spots.old) }
+) -> usize
+    requires outer { 0 < length sizes.now }
+    requires within { sum sizes.now * 2 ≤ length coords.now }
+    requires obstacles { length obstacles.now ≤ 64 }
+    requires first { packing.now.quota ≤ length first.old }
+    requires flags { packing.now.quota ≤ length flags.old }
+    requires spots { packing.now.quota * 2 ≤ length spots.old }
 {
-    let ctx = context(settings, spread == 1, strict == 1);
+    let ctx = context(packing, packing.strict);
     let rng = Stream { state: *state };
-    // A piece has 2,000 marks at most. C lends floats, so the room for flags is an array of this function's.
-    let n = (quota as usize).min(2000);
-    let mut near = [0.0; 256];
-    let mut honoring = [false; 2000];
+    let mut near = [Rectangle::default(); 64];
     let taken = pack_random_piece(
         relax::Spreading::SOURCE,
         RegionPiece { sizes, coords },
-        n,
-        attempts,
+        packing.quota,
+        packing.attempts,
         ctx,
         obstacles,
         rng,
         &mut near[..],
         first,
-        &mut honoring[..],
+        flags,
         spots,
     );
     *state = taken.rng.state;
-    taken.count as u64
+    taken.count
 }

@@ -1,12 +1,12 @@
 // regions.rs, `min_dist_to_rings` and `signed_clearance`. The least of the squares is kept and one root taken.
 ghost use Rattle.std.specs.Prelude.{◌≡◌, ◌-◌, ◌/◌, ◌<◌, length};
-ghost use Rattle.regions.specs.Pieces.{rings_of};
+ghost use Rattle.regions.specs.Pieces.{rings_of, rings_left};
 ghost use Rattle.regions.specs.Clearance.{along, edge_square, square_at, closer, within, signed_clearance};
 ghost use Rattle.regions.specs.Squares.{least_of_ring, least_of_rings, least_from};
 ghost use Rattle.regions.specs.Unrooted.{rooted_if};
 
 use crate::inside::point_in_polygon;
-use crate::piece::RegionPiece;
+use crate::piece::{RegionPiece, Rings};
 use crate::ring::after;
 use crate::small::ring_clearance;
 use glyphs::points::{vx, vy};
@@ -113,11 +113,11 @@ pub fn ring_square(px: f64, py: f64, start: f64, ring: &[f64]) -> f64
 }
 
 // The least square of all rings.
-pub fn rings_square(px: f64, py: f64, piece: RegionPiece) -> f64
-    ensures { result ≡ least_of_rings px py (rings_of piece.entry) }
+pub fn rings_square(px: f64, py: f64, rings: Rings) -> f64
+    ensures { result ≡ least_of_rings px py (rings_left rings.entry) }
 {
     let mut best = 1.0 / 0.0;
-    for ring in piece.rings() {
+    for ring in rings {
         best = ring_square(px, py, best, ring);
     }
     best
@@ -161,7 +161,7 @@ pub fn clearance(px: f64, py: f64, piece: RegionPiece, always: bool) -> f64
     if (piece.sizes.len() == 1) & ((n >= 3) & (n <= 24)) {
         return ring_clearance(px, py, piece.outer(), always);
     }
-    let square = rings_square(px, py, piece);
+    let square = rings_square(px, py, piece.rings());
     let inside = inside_piece(px, py, piece);
     with_root(square, inside, always)
 }

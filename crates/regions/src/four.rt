@@ -2,7 +2,7 @@
 // side.
 ghost use Rattle.std.specs.Prelude.{◌≡◌, true, not, ◌&&◌};
 ghost use Rattle.float.specs.Ops.{◌>ᶠ◌};
-ghost use Rattle.regions.specs.Pieces.{rings_of};
+ghost use Rattle.regions.specs.Pieces.{rings_of, rings_left};
 ghost use Rattle.regions.specs.Inside.{intersect, flip, point_in_polygon};
 ghost use Rattle.regions.specs.Clearance.{edge_square, closer, within, signed_clearance};
 ghost use Rattle.regions.specs.Squares.{least_of_ring, least_of_rings};
@@ -10,7 +10,7 @@ ghost use Rattle.regions.specs.Four.{Which, at};
 
 use crate::clearance::closer_edge;
 use crate::inside::turned_by;
-use crate::piece::RegionPiece;
+use crate::piece::{RegionPiece, Rings};
 use crate::ring::{after, before};
 use glyphs::points::{vx, vy};
 
@@ -68,8 +68,8 @@ fn ring_squares(xs: Four<f64>, ys: Four<f64>, start: Four<f64>, ring: &[f64]) ->
 }
 
 // The least squares of all rings.
-fn rings_squares(xs: Four<f64>, ys: Four<f64>, piece: RegionPiece) -> Four<f64>
-    ensures { (k : Which) → at k result ≡ least_of_rings (at k xs) (at k ys) (rings_of piece.entry) }
+fn rings_squares(xs: Four<f64>, ys: Four<f64>, rings: Rings) -> Four<f64>
+    ensures { (k : Which) → at k result ≡ least_of_rings (at k xs) (at k ys) (rings_left rings.entry) }
 {
     let far = 1.0 / 0.0;
     let mut best = Four {
@@ -78,7 +78,7 @@ fn rings_squares(xs: Four<f64>, ys: Four<f64>, piece: RegionPiece) -> Four<f64>
         c: far,
         d: far,
     };
-    for ring in piece.rings() {
+    for ring in rings {
         best = ring_squares(xs, ys, best, ring);
     }
     best
@@ -172,7 +172,7 @@ fn in_piece(xs: Four<f64>, ys: Four<f64>, piece: RegionPiece) -> Four<bool>
 pub fn four_clearances(xs: Four<f64>, ys: Four<f64>, piece: RegionPiece) -> Four<f64>
     ensures { (k : Which) → at k result ≡ signed_clearance (at k xs) (at k ys) (rings_of piece.entry) }
 {
-    let squares = rings_squares(xs, ys, piece);
+    let squares = rings_squares(xs, ys, piece.rings());
     let inside = in_piece(xs, ys, piece);
     let [a, b, c, d] = float::each_root([squares.a, squares.b, squares.c, squares.d]);
     Four {

@@ -1,10 +1,10 @@
 // glyphs.rs, `clear_of_obstacles` at a margin: mostly without a root.
 ghost use Rattle.std.specs.Prelude.{◌≡◌};
-ghost use Rattle.glyphs.specs.Rect.{rectangles, clear_of_obstacles};
+ghost use Rattle.glyphs.specs.Rect.{clear_of_obstacles};
 ghost use Rattle.regions.specs.Pillars.{beyond, rect_square};
 
 use crate::margin::Margin;
-use glyphs::rect::{Rectangle, obstacle};
+use glyphs::rect::Rectangle;
 
 // How far a coordinate is beyond the sides `length` apart around `center`; 0 between them.
 pub fn beyond(p: f64, center: f64, length: f64) -> f64
@@ -23,16 +23,13 @@ fn rect_square(px: f64, py: f64, rect: Rectangle) -> f64
 }
 
 // Whether (px, py) keeps the margin to every obstacle.
-pub fn clears_obstacles(px: f64, py: f64, obstacles: &[f64], margin: Margin) -> bool
-    ensures { result ≡ clear_of_obstacles px py (rectangles obstacles.now) margin.least }
+pub fn clears_obstacles(px: f64, py: f64, obstacles: &[Rectangle], margin: Margin) -> bool
+    ensures { result ≡ clear_of_obstacles px py obstacles.now margin.least }
 {
-    let n = obstacles.len() / 4;
-    let mut k = 0;
-    while k < n {
-        if !margin.root_at_least(rect_square(px, py, obstacle(obstacles, k))) {
+    for rect in obstacles {
+        if !margin.root_at_least(rect_square(px, py, *rect)) {
             return false;
         }
-        k += 1;
     }
     true
 }

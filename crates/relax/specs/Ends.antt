@@ -47,6 +47,8 @@ module _ (numbers : Spreading) (points : List Point) (piece : Piece) (obstacles 
       let c : map rooted unrooted ≡ swept.clearance = ap (λ (s : Scatter). s.clearance) e in (
         sym (flat_spots spots n k) ∙ ap flat p ∙ rw (when_busy h),
         c
-            ∙ kept_clearances numbers (around numbers points piece obstacles spacing inset) (record { points = points; clearance = clearances_of piece points }) refl
+            ∙ kept_clearances numbers (around numbers points piece obstacles spacing inset)
+            (record { points = points; clearance = clearances_of piece points })
+            refl
             ∙ rw (when_busy h),
       )

@@ -8,7 +8,7 @@ use Rattle.float.specs.Ops.{◌*ᶠ◌, ◌/ᶠ◌, ◌≤ᶠ◌, 0ᶠ, 1ᶠ, ½
 use Rattle.float.specs.Order.{hypot, min}
 use Rattle.glyphs.specs.declared.rect.Point.{Point}
 use Rattle.glyphs.specs.declared.rect.Rectangle.{Rectangle}
-use Rattle.glyphs.specs.Rect.{rectangles, is_finite}
+use Rattle.glyphs.specs.Rect.{is_finite}
 use Rattle.glyphs.specs.Spots.{spot_at, spots_of, spots_at_lem}
 use Rattle.regions.specs.Pieces.{rings_of}
 use Rattle.regions.specs.Ring.{Piece}
@@ -28,7 +28,7 @@ scatter_of marks = record { points = spots_of marks.spots.now; clearance = map r
 
 -- what every sweep reads
 abbrev pub surroundings : Field → List Bool → Surroundings
-surroundings field honoring = record { field = field.distances; piece = rings_of field.piece; obstacles = rectangles field.obstacles.now; honoring = honoring }
+surroundings field honoring = record { field = field.distances; piece = rings_of field.piece; obstacles = field.obstacles.now; honoring = honoring }
 
 -- the slices are those that were, and the flags are not changed
 pub record Keeps (m m' : Marks) : Type 0 where

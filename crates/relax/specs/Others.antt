@@ -1,4 +1,5 @@
--- The other marks are those before mark i and those after it; none of them is too near where no more are than mark i alone; marks too far away push nothing, so that those near enough may be gathered; and the order of an acceptance's tests does not matter.
+-- Of the other marks: the spacing test by a count of those too near, the pushes of those near enough alone, and an acceptance's
+-- tests in another order.
 -- Rests on the definitions and the laws of `all`.
 use Rattle.std.specs.Prelude.{◌≡◌, Bool, not, cond, Some, None, ◌&&◌, ◌||◌, length, get_or, take, drop, set, Float}
 use Rattle.std.proofs.Math.Path.{refl, sym}

@@ -1,7 +1,7 @@
 // relax.rs, `Field`.
 ghost use Rattle.std.specs.Prelude.{◌≡◌, not, ◌&&◌, ◌/◌, ◌<◌, length, option_map};
 ghost use Rattle.float.specs.Ops.{◌*ᶠ◌};
-ghost use Rattle.glyphs.specs.Rect.{rectangles, clear_of_obstacles};
+ghost use Rattle.glyphs.specs.Rect.{clear_of_obstacles};
 ghost use Rattle.glyphs.specs.Spots.{spots_of};
 ghost use Rattle.regions.specs.Margins.{margin_of};
 ghost use Rattle.regions.specs.Pieces.{rings_of};
@@ -10,7 +10,7 @@ ghost use Rattle.relax.specs.Field.{clearance_gradient, push_inward, force_on, c
 
 use crate::distances::Distances;
 use crate::push::{Force, push_others};
-use glyphs::rect::Point;
+use glyphs::rect::{Point, Rectangle};
 use glyphs::spots::{apart, apart_from_all, count_near, spot, spots_after, spots_before};
 use regions::four::{Four, four_clearances};
 use regions::piece::RegionPiece;
@@ -21,7 +21,7 @@ use regions::unrooted::{rooted, rooted_below, unrooted_clearance};
 #[derive(Clone, Copy)]
 pub struct Field<'a> {
     pub piece: RegionPiece<'a>,
-    pub obstacles: &'a [f64],
+    pub obstacles: &'a [Rectangle],
     pub distances: Distances,
     pub ghost inset_margin: { distances.margin ≡ margin_of distances.inset },
     pub ghost reach_margin: { distances.reach ≡ margin_of distances.boundary_reach },
@@ -103,9 +103,9 @@ impl<'a> Field<'a> {
         before & apart_from_all(place.x, place.y, least, spots_after(spots, i))
     }
 
-    // Whether a place is clear of the obstacles, where that is asked of it.
+    // Whether a place is clear of the obstacles, where that is asked of it: `honoring` is what was noted of the mark.
     fn clear_if(&self, honoring: bool, place: Point) -> bool
-        ensures { result ≡ not (honoring && not (clear_of_obstacles place.x place.y (rectangles self.now.obstacles.now) self.now.distances.inset)) }
+        ensures { result ≡ not (honoring && not (clear_of_obstacles place.x place.y self.now.obstacles.now self.now.distances.inset)) }
     {
         if honoring {
             return clears_obstacles(place.x, place.y, self.obstacles, self.distances.margin);
@@ -113,11 +113,12 @@ impl<'a> Field<'a> {
         true
     }
 
-    // The clearance of a place that mark `i` may move to, its root not taken. The tests stand in the order of their cost, not
-    // of the source: none reads what another finds.
+    // The clearance of a place that mark `i` may move to, its root not taken; `honoring` is what was noted of it. The tests
+    // stand in the order of their cost, not of the source: none reads what another finds.
     pub fn accepts(&self, candidate: Point, i: usize, spots: &[f64], honoring: bool) -> Option<f64>
         requires { i < length spots.now / 2 }
-        ensures { option_map rooted result ≡ accepts self.now.distances (rings_of self.now.piece) (rectangles self.now.obstacles.now) candidate i (spots_of spots.now) honoring }
+        ensures { option_map rooted result
+            ≡ accepts self.now.distances (rings_of self.now.piece) self.now.obstacles.now candidate i (spots_of spots.now) honoring }
     {
         if !self.clear_of_others(candidate, i, spots) {
             return None;

@@ -1,6 +1,5 @@
 // relax.rs, `relax_scatter`: one mark of a sweep.
 ghost use Rattle.std.specs.Prelude.{◌≡◌, suc, ◌/◌, ◌<◌, length};
-ghost use Rattle.glyphs.specs.Rect.{rectangles};
 ghost use Rattle.glyphs.specs.Spots.{spots_of};
 ghost use Rattle.regions.specs.Pieces.{rings_of};
 ghost use Rattle.relax.specs.Scatter.{relax_point};
@@ -20,7 +19,8 @@ pub struct Move {
     pub clearance: f64,
 }
 
-// A step of length `first` in a direction, halved at each refusal, `backtracks` times at most.
+// A step of length `first` in a direction, halved at each refusal, `backtracks` times at most. `honoring`, here and below, is
+// what was noted of mark `i`.
 fn first_accepted(
     field: &Field,
     i: usize,
@@ -31,7 +31,9 @@ fn first_accepted(
     first: f64,
 ) -> Option<Move>
     requires { i < length spots.now / 2 }
-    ensures { told_of result ≡ first_accepted field.now.distances (rings_of field.now.piece) (rectangles field.now.obstacles.now) i (spots_of spots.now) honoring towards (suc backtracks) first }
+    ensures { told_of result
+        ≡ first_accepted field.now.distances (rings_of field.now.piece) field.now.obstacles.now i (spots_of spots.now) honoring towards
+        (suc backtracks) first }
 {
     let p = spot(spots, i);
     let mut step = first;
@@ -59,7 +61,9 @@ fn pushed_to(
     max_step: f64,
 ) -> Option<Move>
     requires { i < length spots.now / 2 }
-    ensures { told_of result ≡ pushed_to field.now.distances (rings_of field.now.piece) (rectangles field.now.obstacles.now) i (spots_of spots.now) honoring f (suc backtracks) max_step }
+    ensures { told_of result
+        ≡ pushed_to field.now.distances (rings_of field.now.piece) field.now.obstacles.now i (spots_of spots.now) honoring f (suc backtracks)
+        max_step }
 {
     let magnitude = float::hypot(f.x, f.y);
     if !is_finite(magnitude) | (magnitude <= 0.0) {
@@ -95,7 +99,8 @@ fn move_of(
     i: usize,
 ) -> Option<Move>
     requires { i < length marks.now.honoring.now }
-    ensures { settled (scatter_of marks.now) i (told_of result) ≡ relax_point numbers (surroundings field.now marks.now.honoring.now) max_step (scatter_of marks.now) i }
+    ensures { settled (scatter_of marks.now) i (told_of result)
+        ≡ relax_point numbers (surroundings field.now marks.now.honoring.now) max_step (scatter_of marks.now) i }
 {
     let f = field.force_on(i, marks.spots, marks.unrooted[i]);
     pushed_to(

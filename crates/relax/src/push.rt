@@ -85,7 +85,8 @@ fn push_near(influence: f64, p: Point, start: Force, spots: &[f64]) -> Force
     f
 }
 
-// The pushes of the eight marks from mark `k` on. Mostly all are too far away.
+// The pushes of the eight marks from mark `k` on. Mostly all are too far away, and eight are told so at once, with no branch
+// for each.
 fn push_eight(influence: f64, p: Point, start: Force, spots: &[f64], k: usize) -> Force
     requires { k + 8 ≤ length spots.now / 2 }
     ensures { result ≡ foldl (push_of influence p) start (take 8 (drop k (spots_of spots.now))) }
@@ -111,10 +112,14 @@ fn push_all(influence: f64, p: Point, start: Force, spots: &[f64]) -> Force
 }
 
 // Puts the marks of a slice that are near enough to push behind the `m` of a list, and answers how many there are then.
-// Which these are nobody can guess, so there is no branch on it: a mark that is not is overwritten.
+// Which these are nobody can guess, so there is no branch on it: a mark that is not is overwritten. The list is the front of
+// an array, with its count beside it, as there is no heap.
 fn gather(influence: f64, p: Point, spots: &[f64], near: &mut [f64], m: usize) -> usize
     requires { m + length spots.now / 2 ≤ length near.old / 2 }
-    ensures { (result ≤ m + length spots.now / 2) × (length near.new ≡ length near.old) × ((f : Force) → foldl (push_of influence p) f (take result (spots_of near.new)) ≡ foldl (push_of influence p) (foldl (push_of influence p) f (take m (spots_of near.old))) (spots_of spots.now)) }
+    ensures few { result ≤ m + length spots.now / 2 }
+    ensures room { length near.new ≡ length near.old }
+    ensures pushes { (f : Force) → foldl (push_of influence p) f (take result (spots_of near.new))
+        ≡ foldl (push_of influence p) (foldl (push_of influence p) f (take m (spots_of near.old))) (spots_of spots.now) }
 {
     let reach = influence * influence;
     let mut count = m;

@@ -1,6 +1,5 @@
 // relax.rs, `relax_scatter`.
 ghost use Rattle.std.specs.Prelude.{◌≡◌, map, ◌*◌, length};
-ghost use Rattle.glyphs.specs.Rect.{rectangles};
 ghost use Rattle.glyphs.specs.Spots.{spots_of, flat};
 ghost use Rattle.regions.specs.Pieces.{rings_of};
 ghost use Rattle.regions.specs.Unrooted.{rooted};
@@ -13,7 +12,7 @@ use crate::distances::Distances;
 use crate::field::Field;
 use crate::marks::Marks;
 use crate::moves::relax_point;
-use glyphs::rect::is_finite;
+use glyphs::rect::{Rectangle, is_finite};
 use glyphs::spots::spot;
 use regions::margin::Margin;
 use regions::piece::RegionPiece;
@@ -58,9 +57,9 @@ fn note_unrooted(spots: &[f64], unrooted: &mut [f64], piece: RegionPiece)
     }
 }
 
-fn note_honoring(spots: &[f64], honoring: &mut [bool], obstacles: &[f64], inset: f64)
+fn note_honoring(spots: &[f64], honoring: &mut [bool], obstacles: &[Rectangle], inset: f64)
     requires { length spots.now ≡ length honoring.old * 2 }
-    ensures { honoring.new ≡ honoring_of (rectangles obstacles.now) inset (spots_of spots.now) }
+    ensures { honoring.new ≡ honoring_of obstacles.now inset (spots_of spots.now) }
 {
     let margin = Margin::of(inset);
     for (i, note) in honoring.iter_mut().enumerate() {
@@ -80,21 +79,23 @@ fn idle(count: usize, spacing: f64) -> bool
 }
 
 // Evens the marks out. At exit `unrooted` has the clearance of each, its root not taken, and `honoring` whether it was clear of
-// the obstacles at entry.
+// the obstacles at entry. The parameters are the source's, and what is lent.
 pub fn relax_scatter(
     numbers: Spreading,
     spots: &mut [f64],
     unrooted: &mut [f64],
     honoring: &mut [bool],
     piece: RegionPiece,
-    obstacles: &[f64],
+    obstacles: &[Rectangle],
     spacing: f64,
     inset: f64,
 )
     requires { (length spots.old ≡ length unrooted.old * 2) × (length honoring.old ≡ length unrooted.old) }
-    ensures spots { spots.new ≡ flat (relax_scatter numbers (spots_of spots.old) (rings_of piece.entry) (rectangles obstacles.now) spacing inset) }
-    ensures unrooted { map rooted unrooted.new ≡ clearances_of (rings_of piece.entry) (relax_scatter numbers (spots_of spots.old) (rings_of piece.entry) (rectangles obstacles.now) spacing inset) }
-    ensures honoring { honoring.new ≡ honoring_of (rectangles obstacles.now) inset (spots_of spots.old) }
+    ensures spots { spots.new ≡ flat (relax_scatter numbers (spots_of spots.old) (rings_of piece.entry) obstacles.now spacing inset) }
+    ensures unrooted { map rooted unrooted.new
+        ≡ clearances_of (rings_of piece.entry)
+        (relax_scatter numbers (spots_of spots.old) (rings_of piece.entry) obstacles.now spacing inset) }
+    ensures honoring { honoring.new ≡ honoring_of obstacles.now inset (spots_of spots.old) }
 {
     note_honoring(&spots[..], &mut honoring[..], obstacles, inset);
     note_unrooted(&spots[..], &mut unrooted[..], piece);

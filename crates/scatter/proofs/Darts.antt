@@ -12,8 +12,7 @@ use Rattle.glyphs.specs.declared.rect.Point.{Point}
 use Rattle.glyphs.specs.declared.rect.Rectangle.{Rectangle}
 use Rattle.glyphs.specs.declared.stream.Stream.{Stream}
 use Rattle.glyphs.specs.Bounds.{ring_bounds}
-use Rattle.glyphs.specs.Rect.{rectangles}
-use Rattle.glyphs.specs.Spots.{spots_of, flat, apart, put_spot, length_flat}
+use Rattle.glyphs.specs.Spots.{spots_of, flat, apart, put_spot}
 use Rattle.regions.specs.Pieces.{rings_of}
 use Rattle.regions.specs.Ring.{Piece, outer}
 use Rattle.relax.specs.declared.Spreading.{Spreading}
@@ -22,7 +21,7 @@ use Rattle.relax.specs.Scatter.{relax_scatter}
 use Rattle.lattice.specs.Context.{inset, spacing}
 use Rattle.lattice.specs.Escape.{point}
 use Rattle.lattice.specs.declared.context.PackCtx.{PackCtx}
-use Rattle.scatter.specs.Placed.{Front, length_first, placed_front, first_put, front_put, written_over}
+use Rattle.scatter.specs.Placed.{Front, length_first, placed_front, first_put, front_put, placed_over}
 use Rattle.scatter.specs.Random.{Thrown, Dart, hit, miss, after_dart, lands, throw, glyphs, throws, throw_within, pack_random_piece}
 use Rattle.scatter.specs.declared.random.Aimed.{Aimed}
 use Rattle.scatter.specs.declared.random.Taken.{Taken}
@@ -46,8 +45,7 @@ pub holds_over :
     (before after : Thrown) (t u : Taken) (exit between entry : List Float) → length before.placed ≤ length after.placed
     → Holds before t between entry → Holds after u exit between → Holds after u exit entry
 holds_over before after t u exit between entry h b a =
-    let longer : length (flat before.placed) ≤ length (flat after.placed) = omega (arith, h, length_flat before.placed, length_flat after.placed) in
-    (a.0, a.1, a.2 ∙ ap (λ (l : List Float). written (flat after.placed) l) b.2 ∙ written_over (flat after.placed) (flat before.placed) entry longer)
+    (a.0, a.1, a.2 ∙ ap (λ (l : List Float). written (flat after.placed) l) b.2 ∙ placed_over before.placed after.placed entry h)
 
 same_marks :
     (next : Thrown → Thrown) (ps : List Point) (r s : Stream) (d : Dart)
@@ -83,7 +81,7 @@ module _ (site : Site) (attempts : ℕ) (honor : Bool) where
   module _ (t count : ℕ) (rng : Stream) (spots : List Float) (h : t < attempts) (d : Aimed) (ed : d ≡ aimed rng site.extents) where
     abbrev lands_here : Bool
     lands_here =
-        lands (rings_of site.piece) site.n attempts site.ctx (rectangles site.near.now)
+        lands (rings_of site.piece) site.n attempts site.ctx site.near.now
         site.extents.min_x site.extents.max_x site.extents.min_y site.extents.max_y honor (take count (spots_of spots)) (point d.x d.y)
 
     attempt :
@@ -200,7 +198,7 @@ module _ (numbers : Spreading) (site : Site) (attempts : ℕ) (obstacles : List 
   thrown = both site attempts rng
 
   abbrev even : List Point → List Point
-  even ps = relax_scatter numbers ps (rings_of site.piece) (rectangles site.near.now) (spacing site.ctx) (inset site.ctx)
+  even ps = relax_scatter numbers ps (rings_of site.piece) site.near.now (spacing site.ctx) (inset site.ctx)
 
   abbrev evened : Thrown
   evened = record { placed = even thrown.placed; rng = thrown.rng }
@@ -222,4 +220,4 @@ module _ (numbers : Spreading) (site : Site) (attempts : ℕ) (obstacles : List 
       let f : take t.count (spots_of between) ≡ thrown.placed = ap (λ (v : Thrown). v.placed) (holds_read thrown t between entry a) in
       let g : whole ≡ evened = packed box en ∙ ap (λ (b : Bool). cond b evened thrown) h in
       rw g
-      (a.0 ∙ sym m, a.1, e ∙ rw (f, a.2) (written_over (flat ps) (flat thrown.placed) entry (omega (arith, m, length_flat ps, length_flat thrown.placed))))
+      (a.0 ∙ sym m, a.1, e ∙ rw (f, a.2) (placed_over thrown.placed ps entry (omega (arith, m))))

@@ -1,8 +1,10 @@
 -- The spacing test of low discrepancy by what it reads: the cells that spots are kept in, by the ranks of their numbers.
 -- Definitions for the code, with their laws. Rests on the laws of ranks.
-use Rattle.std.specs.Prelude.{◌≡◌, refl, ◌⊎◌, Bool, true, false, not, ◌&&◌, ◌||◌, List, [], ◌∷◌, ℕ, zero, suc, ◌-◌, ◌≤◌, ◌<◌, eqb, leb, ℤ, pos, negsuc, Float}
+use Rattle.std.specs.Prelude.{◌≡◌, refl, ◌⊎◌, Bool, true, false, not, ◌&&◌, ◌||◌, List, [], ◌∷◌, length, get_or, Float}
+use Rattle.std.specs.Prelude.{ℕ, zero, suc, ◌-◌, ◌≤◌, ◌<◌, eqb, leb, ℤ, pos, negsuc}
 use Rattle.std.proofs.Common.{sym, inl, inr, arith, ne_eqb}
 use Rattle.std.proofs.lemmas.Bool.Decides.{nat_tests}
+use Rattle.std.proofs.lemmas.List.Recursion.{and_fails_at}
 use Rattle.std.specs.Int.{abs_diff}
 use Rattle.std.proofs.Math.Bool.{or-true, or-false}
 use Rattle.std.proofs.Math.IntN.{suc_ℤ, pred_ℤ}
@@ -100,3 +102,8 @@ all_far cells p (q ∷ qs) e = both (squared_distance p q ≥ᶠ cells.least) re
         → keeps cells p q && all (keeps cells p) qs ≡ true
     both true f g later = rw (far_keeps cells p q f) (later g)
     both false f g later = let w : ◌≡◌ {A = ℕ} 0 1 = cc in absurd (omega arith)
+
+-- one spot that fails is enough
+pub one_fails : {A : Type 0} (f : A → Bool) (xs : List A) (k : ℕ) (d : A) → k < length xs → f (get_or xs k d) ≡ false → all f xs ≡ false
+unfolding all
+one_fails f xs k d h e = and_fails_at (all f) f refl (λ _ _. refl) xs k d h e

@@ -9,7 +9,7 @@ use Rattle.float.specs.Ops.{◌*ᶠ◌, ◌≥ᶠ◌}
 use Rattle.glyphs.specs.declared.bounds.Extents.{Extents}
 use Rattle.glyphs.specs.declared.rect.Point.{Point}
 use Rattle.glyphs.specs.declared.stream.Stream.{Stream}
-use Rattle.glyphs.specs.Rect.{rectangles, clear_of_obstacles}
+use Rattle.glyphs.specs.Rect.{clear_of_obstacles}
 use Rattle.glyphs.specs.Spots.{spots_of, flat, apart}
 use Rattle.glyphs.specs.Stream.{random_range}
 use Rattle.regions.specs.Clearance.{signed_clearance}
@@ -40,23 +40,23 @@ abbrev pub lands_at : Site → Bool → List Point → Point → Bool
 lands_at site honor placed p =
     all (apart p.x p.y (spacing site.ctx *ᶠ spacing site.ctx)) placed
     && signed_clearance p.x p.y (rings_of site.piece) ≥ᶠ inset site.ctx
-    && (not honor || clear_of_obstacles p.x p.y (rectangles site.near.now) (inset site.ctx))
+    && (not honor || clear_of_obstacles p.x p.y site.near.now (inset site.ctx))
 
 module _ (site : Site) (attempts : ℕ) where
   abbrev pub throws_at : Stream → Thrown
   throws_at rng =
-      throws (rings_of site.piece) site.n attempts site.ctx (rectangles site.near.now)
+      throws (rings_of site.piece) site.n attempts site.ctx site.near.now
       site.extents.min_x site.extents.max_x site.extents.min_y site.extents.max_y rng
 
 module _ (site : Site) (attempts : ℕ) (honor : Bool) where
   abbrev pub darts : ℕ → List Point → Stream → Dart
   darts left placed rng =
-      throw (rings_of site.piece) site.n attempts site.ctx (rectangles site.near.now)
+      throw (rings_of site.piece) site.n attempts site.ctx site.near.now
       site.extents.min_x site.extents.max_x site.extents.min_y site.extents.max_y honor left placed rng
 
   abbrev pub marks : ℕ → Thrown → Thrown
   marks left t =
-      glyphs (rings_of site.piece) site.n attempts site.ctx (rectangles site.near.now)
+      glyphs (rings_of site.piece) site.n attempts site.ctx site.near.now
       site.extents.min_x site.extents.max_x site.extents.min_y site.extents.max_y honor left t
 
   -- a pass from the first marks of a slice on, and from within an attempt at the next

@@ -1,5 +1,6 @@
 -- discs.rs, `pack_low_discrepancy_piece`: a Halton sequence filtered by clearance and spacing. Definitions only.
-use Rattle.std.specs.Prelude.{Bool, true, false, not, cond, ◌&&◌, ◌||◌, Option, Some, None, List, [], ◌∷◌, ◌++◌, ℕ, zero, suc, ◌+◌, ◌*◌, min, max, eqb, ℤ, pos, negsuc, length, Float}
+use Rattle.std.specs.Prelude.{Bool, true, false, not, cond, ◌&&◌, ◌||◌, Option, Some, None, List, [], ◌∷◌, ◌++◌, length, Float}
+use Rattle.std.specs.Prelude.{ℕ, zero, suc, ◌+◌, ◌*◌, min, max, eqb, ℤ, pos, negsuc}
 use Rattle.std.proofs.Math.IntN.{suc_ℤ, pred_ℤ}
 use Rattle.laws.specs.Any.{all}
 use Rattle.float.specs.Ops.{◌+ᶠ◌, ◌-ᶠ◌, ◌*ᶠ◌, ◌/ᶠ◌, ◌≥ᶠ◌, ε}
@@ -41,7 +42,8 @@ budget n = min (max (n * 100) 1024) 1000000
 -- q is in one of the nine cells around p's
 abbrev pub neighbours : Float → Float → Float → Point → Point → Bool
 neighbours min-x min-y cell_size_lem p q =
-    beside (cell_number min-x cell_size_lem p.x) (cell_number min-x cell_size_lem q.x) && beside (cell_number min-y cell_size_lem p.y) (cell_number min-y cell_size_lem q.y)
+    beside (cell_number min-x cell_size_lem p.x) (cell_number min-x cell_size_lem q.x)
+    && beside (cell_number min-y cell_size_lem p.y) (cell_number min-y cell_size_lem q.y)
 
 -- the sequence's point of an index, in a box
 abbrev pub halton_point : Float → Float → Float → Float → ℕ → Point

@@ -16,7 +16,7 @@ use Rattle.glyphs.specs.declared.bounds.Extents.{Extents}
 use Rattle.glyphs.specs.declared.rect.Point.{Point}
 use Rattle.glyphs.specs.declared.rect.Rectangle.{Rectangle}
 use Rattle.glyphs.specs.Bounds.{ring_bounds}
-use Rattle.glyphs.specs.Rect.{rectangles, clear_of_obstacles, obstacles_near}
+use Rattle.glyphs.specs.Rect.{clear_of_obstacles, obstacles_near}
 use Rattle.regions.specs.Pieces.{rings_of}
 use Rattle.regions.specs.Ring.{Piece, outer}
 use Rattle.regions.specs.Clearance.{signed_clearance}
@@ -37,17 +37,17 @@ module _ (site : Site) (anchor : Option Point) where
 
   abbrev pub admits_at : Bool → List Point → Point → Bool
   admits_at honor placed p =
-      admits (rings_of site.piece) site.n site.ctx (rectangles site.near.now) anchor
+      admits (rings_of site.piece) site.n site.ctx site.near.now anchor
       site.extents.min_x site.extents.max_x site.extents.min_y site.extents.max_y honor placed p
 
   abbrev pub pass_at : Bool → ℕ → ℕ → List Point → List Point
   pass_at honor turns index placed =
-      pass (rings_of site.piece) site.n site.ctx (rectangles site.near.now) anchor
+      pass (rings_of site.piece) site.n site.ctx site.near.now anchor
       site.extents.min_x site.extents.max_x site.extents.min_y site.extents.max_y honor turns index placed
 
   abbrev pub passes_at : List Point
   passes_at =
-      passes (rings_of site.piece) site.n site.ctx (rectangles site.near.now) anchor
+      passes (rings_of site.piece) site.n site.ctx site.near.now anchor
       site.extents.min_x site.extents.max_x site.extents.min_y site.extents.max_y
 
 -- ---- the tests in the code's order, by the cells that it keeps
@@ -62,7 +62,7 @@ module _
     Clears = signed_clearance p.x p.y (rings_of site.piece) ≥ᶠ inset site.ctx
 
     abbrev Free : Bool
-    Free = not honor || clear_of_obstacles p.x p.y (rectangles site.near.now) (inset site.ctx)
+    Free = not honor || clear_of_obstacles p.x p.y site.near.now (inset site.ctx)
 
     by_cells : admits_at site anchor honor placed p ≡ (Keeps && Clears && Free)
     unfolding admits apart keeps cells_of

@@ -8,10 +8,6 @@ use Rattle.glyphs.specs.declared.rect.Point.{Point}
 use Rattle.glyphs.specs.Spots.{flat, spots_of, put_spot, length_flat, length_spots, flat_spots, spots_take}
 use Rattle.lattice.specs.Flat.{flat_append}
 
--- an answer that counts spots, with those spots at the front of a slice, the rest of which is as before
-abbrev pub Fills : List Point → ℕ → List Float → List Float → Type 0
-Fills ps count exit entry = (count ≡ length ps) × (exit ≡ written (flat ps) entry)
-
 -- the spots that are written are at the front
 front : (ps : List Point) (l : List Float) → take (length ps) (spots_of (flat ps ++ l)) ≡ ps
 unfolding spots_of flat
@@ -37,6 +33,10 @@ written_over xs ys l h =
     let e : length xs ≡ length ys + k = omega arith in
     let f : drop (length ys + k) (ys ++ drop (length ys) l) ≡ drop (length ys + k) l = drop-append-add ys (drop (length ys) l) k ∙ drop-drop k (length ys) l in
     ap (λ (t : List Float). xs ++ t) (ap (λ (m : ℕ). drop m (ys ++ drop (length ys) l)) e ∙ f ∙ ap (λ (m : ℕ). drop m l) (sym e))
+
+-- spots placed over fewer
+pub placed_over : (ps qs : List Point) (l : List Float) → length ps ≤ length qs → written (flat qs) (written (flat ps) l) ≡ written (flat qs) l
+placed_over ps qs l h = written_over (flat qs) (flat ps) l (omega (arith, h, length_flat ps, length_flat qs))
 
 -- one more spot
 put_next :
@@ -113,4 +113,4 @@ module _ (ps : List Point) (l l₁ : List Float) (m : ℕ) (em : m ≡ length ps
   written_on h =
       ap (λ (qs : List Point). written (flat qs) l₁) run_on
       ∙ ap (written (flat (run ps))) el
-      ∙ written_over (flat (run ps)) (flat ps) l (omega (arith, length_flat ps, length_flat (run ps)))
+      ∙ placed_over ps (run ps) l h

@@ -13,7 +13,8 @@ use lattice::context::PackCtx;
 use lattice::nearest::squared_distance;
 use lattice::span::floor_rank;
 
-// Where the first cell begins, the cells' size, and the square of the spacing.
+// Where the first cell begins, the cells' size, and the square of the spacing. The tests borrow it: passed by value it would
+// be copied for each block of spots.
 #[derive(Clone, Copy)]
 pub struct Cells {
     pub min_x: f64,
@@ -59,39 +60,41 @@ impl Cells {
     }
 
     // Whether the cell of `q` is one of the nine around that of `p`.
-    fn neighbours(self, p: Point, q: Point) -> bool
-        ensures { result ≡ neighbours self.min_x self.min_y self.size p q }
+    fn neighbours(&self, p: Point, q: Point) -> bool
+        ensures { result ≡ neighbours self.now.min_x self.now.min_y self.now.size p q }
     {
         beside(self.min_x, self.size, p.x, q.x) & beside(self.min_y, self.size, p.y, q.y)
     }
 
-    // Whether `p` keeps the spacing from a spot, or the spot is in none of the nine cells around its own.
-    fn keeps(self, p: Point, q: Point) -> bool
-        ensures { result ≡ keeps self p q }
+    // Whether `p` keeps the spacing from a spot, or the spot is in none of the nine cells around its own. Not inlined: so the
+    // cell of `p` is worked out only for a spot that is too near.
+    #[inline(never)]
+    fn keeps(&self, p: Point, q: Point) -> bool
+        ensures { result ≡ keeps self.now p q }
     {
         squared_distance(p, q) >= self.least || !self.neighbours(p, q)
     }
 
     // The same for all spots, one by one. Not inlined: the blocks of eight below mostly end without it.
     #[inline(never)]
-    fn keeps_each(self, p: Point, spots: &[f64]) -> bool
-        ensures { result ≡ all (keeps self p) (spots_of spots.now) }
+    fn keeps_each(&self, p: Point, spots: &[f64]) -> bool
+        ensures { result ≡ all (keeps self.now p) (spots_of spots.now) }
     {
         (0..spots.len() / 2).all(|k| self.keeps(p, spot(spots, k)))
     }
 
     // The same for the eight spots from spot `k` on.
-    fn keeps_eight(self, p: Point, spots: &[f64], k: usize) -> bool
+    fn keeps_eight(&self, p: Point, spots: &[f64], k: usize) -> bool
         requires { k + 8 ≤ length spots.now / 2 }
-        ensures { result ≡ all (keeps self p) (take 8 (drop k (spots_of spots.now))) }
+        ensures { result ≡ all (keeps self.now p) (take 8 (drop k (spots_of spots.now))) }
     {
         apart_from_eight(p.x, p.y, self.least, spots, k)
             || self.keeps_each(p, &spots[k * 2..k * 2 + 16])
     }
 
     // The same for all spots.
-    pub fn keeps_all(self, p: Point, spots: &[f64]) -> bool
-        ensures { result ≡ all (keeps self p) (spots_of spots.now) }
+    pub fn keeps_all(&self, p: Point, spots: &[f64]) -> bool
+        ensures { result ≡ all (keeps self.now p) (spots_of spots.now) }
     {
         let blocks = spots.len() / 16;
         for block in 0..blocks {
@@ -103,7 +106,7 @@ impl Cells {
     }
 
     // Hints: for each cell the spot placed there last. This is where a place's cell has its hint; cells 64 apart share one.
-    pub fn home(self, p: Point) -> usize
+    pub fn home(&self, p: Point) -> usize
         ensures { result < 4096 }
     {
         let i = float::as_usize((p.x - self.min_x) / self.size);
@@ -112,16 +115,16 @@ impl Cells {
     }
 
     // Whether spot `k` is there and too near.
-    fn is_too_near(self, p: Point, spots: &[f64], k: usize) -> bool
-        ensures { result ≡ true → all (keeps self p) (spots_of spots.now) ≡ false }
+    fn is_too_near(&self, p: Point, spots: &[f64], k: usize) -> bool
+        ensures { result ≡ true → all (keeps self.now p) (spots_of spots.now) ≡ false }
     {
         k < spots.len() / 2 && !self.keeps(p, spot(spots, k))
     }
 
     // Whether a spot hinted at around `p` is too near. Most candidates end here, without a look at all spots; a hint may be
     // any number.
-    pub fn is_hinted(self, p: Point, spots: &[f64], hints: &[usize; 4096]) -> bool
-        ensures { result ≡ true → all (keeps self p) (spots_of spots.now) ≡ false }
+    pub fn is_hinted(&self, p: Point, spots: &[f64], hints: &[usize; 4096]) -> bool
+        ensures { result ≡ true → all (keeps self.now p) (spots_of spots.now) ≡ false }
     {
         let h = self.home(p);
         (0..9).any(|k| self.is_too_near(p, spots, hints[around(h, k)]))

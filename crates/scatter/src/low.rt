@@ -1,17 +1,16 @@
 // discs.rs, `pack_low_discrepancy_piece`: a Halton sequence filtered by clearance and spacing, for one piece.
 ghost use Rattle.std.specs.Prelude.{◌≡◌, ◌*◌, ◌<◌, ◌≤◌, length, take};
-ghost use Rattle.glyphs.specs.Rect.{rectangles};
 ghost use Rattle.glyphs.specs.Spots.{spots_of};
 ghost use Rattle.regions.specs.Pieces.{rings_of};
+ghost use Rattle.lattice.specs.Flat.{Puts};
 ghost use Rattle.scatter.specs.LowDiscrepancy.{budget, pack_scatter, lone_anchor};
 ghost use Rattle.scatter.specs.Cells.{cells_of};
 ghost use Rattle.scatter.specs.Passes.{tried, admits_at, pass_at, passes_at};
-ghost use Rattle.scatter.specs.Placed.{Fills};
 
 use crate::cells::Cells;
 use crate::sequence::{Halton, budget};
 use crate::site::Site;
-use glyphs::rect::Point;
+use glyphs::rect::{Point, Rectangle};
 use glyphs::spots::{put_spot, spots_before};
 use lattice::context::PackCtx;
 use lattice::escape::escape_obstacles;
@@ -54,10 +53,11 @@ impl<'a> Filter<'a> {
             && (!honor || self.site.clears_obstacles(p))
     }
 
-    // One pass over the candidates, with `start` spots placed before.
+    // One pass over the candidates, with `start` spots placed before. `honor` is the source's `honor_obstacles`: its two passes
+    // differ in nothing else.
     fn pass(&self, honor: bool, start: usize, hints: &mut [usize; 4096], spots: &mut [f64]) -> usize
         requires { (start ≤ self.now.site.n) × (self.now.site.n * 2 ≤ length spots.old) }
-        ensures { Fills (pass_at self.now.site self.now.anchor honor (budget self.now.site.n) 0 (take start (spots_of spots.old))) result spots.new spots.old }
+        ensures { Puts (pass_at self.now.site self.now.anchor honor (budget self.now.site.n) 0 (take start (spots_of spots.old))) result spots.new spots.old }
     {
         let mut placed = start;
         for index in 0..budget(self.site.n) {
@@ -77,7 +77,7 @@ impl<'a> Filter<'a> {
     // Both passes; the second does not honor the obstacles.
     fn passes(&self, spots: &mut [f64]) -> usize
         requires { self.now.site.n * 2 ≤ length spots.old }
-        ensures { Fills (passes_at self.now.site self.now.anchor) result spots.new spots.old }
+        ensures { Puts (passes_at self.now.site self.now.anchor) result spots.new spots.old }
     {
         let mut hints = [0; 4096];
         let first = self.pass(true, 0, &mut hints, &mut spots[..]);
@@ -94,11 +94,11 @@ pub fn lone_anchor(
     piece: RegionPiece,
     n: usize,
     ctx: PackCtx,
-    obstacles: &[f64],
-    near: &mut [f64],
+    obstacles: &[Rectangle],
+    near: &mut [Rectangle],
 ) -> Option<Point>
     requires { length obstacles.now ≤ length near.old }
-    ensures { result ≡ lone_anchor poi (rings_of piece.entry) n ctx (rectangles obstacles.now) }
+    ensures { result ≡ lone_anchor poi (rings_of piece.entry) n ctx obstacles.now }
 {
     if n != 1 {
         return None;
@@ -107,22 +107,22 @@ pub fn lone_anchor(
         return Some(poi);
     };
     let inset = ctx.inset();
-    let local = near_obstacles(obstacles, inset, extents, near);
-    Some(escape_obstacles(poi, piece, local, inset))
+    let m = near_obstacles(obstacles, inset, extents, &mut near[..]);
+    Some(escape_obstacles(poi, piece, &near[..m], inset))
 }
 
-// Writes the spots of a piece to the front of `spots` and answers how many they are.
+// Writes the spots of a piece to the front of `spots` and answers how many they are: the room is lent, two floats a spot.
 pub fn pack_low_discrepancy_piece(
     anchor: Option<Point>,
     piece: RegionPiece,
     n: usize,
     ctx: PackCtx,
-    obstacles: &[f64],
-    near: &mut [f64],
+    obstacles: &[Rectangle],
+    near: &mut [Rectangle],
     spots: &mut [f64],
 ) -> usize
     requires { (length obstacles.now ≤ length near.old) × (n * 2 ≤ length spots.old) }
-    ensures { Fills (pack_scatter anchor (rings_of piece.entry) n ctx (rectangles obstacles.now)) result spots.new spots.old }
+    ensures { Puts (pack_scatter anchor (rings_of piece.entry) n ctx obstacles.now) result spots.new spots.old }
 {
     if n == 0 {
         return 0;

@@ -1,7 +1,6 @@
 // discs.rs, `pack_random_piece`: darts thrown from a stream, and the scatter relaxed.
 ghost use Rattle.std.specs.Prelude.{◌≡◌, ◌*◌, ◌≤◌, length, take};
 ghost use Rattle.laws.specs.Lists.{written};
-ghost use Rattle.glyphs.specs.Rect.{rectangles};
 ghost use Rattle.glyphs.specs.Spots.{spots_of, flat};
 ghost use Rattle.regions.specs.Pieces.{rings_of};
 ghost use Rattle.relax.specs.Scatter.{relax_scatter};
@@ -11,7 +10,7 @@ ghost use Rattle.scatter.specs.Darts.{Holds, lands_at, pass_from, throws_at, aim
 
 use crate::site::Site;
 use glyphs::bounds::Extents;
-use glyphs::rect::Point;
+use glyphs::rect::{Point, Rectangle};
 use glyphs::spots::{apart_from_all, put_spot, spots_before};
 use glyphs::stream::Stream;
 use lattice::context::PackCtx;
@@ -59,7 +58,8 @@ fn aim(rng: Stream, range: Extents) -> Aimed
 }
 
 // One pass: marks behind those that `spots` has, until they are n or one is out of attempts. The next dart is aimed before
-// one is judged: what becomes of that nobody can guess, and the stream waits for no answer.
+// one is judged: what becomes of that nobody can guess, and the stream waits for no answer. The passes differ in `honor`
+// alone. A dart that lands goes on with the next mark, as in the source, so the outer loop counts no turns.
 fn throw_glyphs(site: &Site, attempts: u32, honor: bool, start: Taken, spots: &mut [f64]) -> Taken
     requires { (start.count ≤ site.now.n) × (site.now.n * 2 ≤ length spots.old) }
     ensures { Holds (pass_from site.now attempts honor start.count start.rng spots.old) result spots.new spots.old }
@@ -112,7 +112,9 @@ fn relax_placed(
     spots: &mut [f64],
 )
     requires { (count ≤ length unrooted.old) × (count ≤ length honoring.old) × (count * 2 ≤ length spots.old) }
-    ensures { spots.new ≡ written (flat (relax_scatter numbers (take count (spots_of spots.old)) (rings_of site.now.piece) (rectangles site.now.near.now) (spacing site.now.ctx) (inset site.now.ctx))) spots.old }
+    ensures { spots.new
+        ≡ written (flat (relax_scatter numbers (take count (spots_of spots.old)) (rings_of site.now.piece) site.now.near.now
+        (spacing site.now.ctx) (inset site.now.ctx))) spots.old }
 {
     relax_scatter(
         numbers,
@@ -126,22 +128,23 @@ fn relax_placed(
     );
 }
 
-// Writes the spots of a piece to the front of `spots`; answers how many they are, with the stream after them.
+// Writes the spots of a piece to the front of `spots`, whose room is lent; answers how many they are, with the stream after
+// them. The parameters are the source's, and what is lent.
 pub fn pack_random_piece(
     numbers: Spreading,
     piece: RegionPiece,
     n: usize,
     attempts: u32,
     ctx: PackCtx,
-    obstacles: &[f64],
+    obstacles: &[Rectangle],
     rng: Stream,
-    near: &mut [f64],
+    near: &mut [Rectangle],
     unrooted: &mut [f64],
     honoring: &mut [bool],
     spots: &mut [f64],
 ) -> Taken
     requires { (length obstacles.now ≤ length near.old) × (n ≤ length unrooted.old) × (n ≤ length honoring.old) × (n * 2 ≤ length spots.old) }
-    ensures { Holds (pack_random_piece numbers (rings_of piece.entry) n attempts ctx (rectangles obstacles.now) rng) result spots.new spots.old }
+    ensures { Holds (pack_random_piece numbers (rings_of piece.entry) n attempts ctx obstacles.now rng) result spots.new spots.old }
 {
     let Some(extents) = piece_bounds(piece) else {
         return Taken { count: 0, rng };

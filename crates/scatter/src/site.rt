@@ -1,13 +1,13 @@
 // discs.rs: what the low-discrepancy and the random packer read of a piece.
 ghost use Rattle.std.specs.Prelude.{◌≡◌, ◌≤◌, length};
 ghost use Rattle.float.specs.Ops.{◌≥ᶠ◌};
-ghost use Rattle.glyphs.specs.Rect.{rectangles, clear_of_obstacles};
+ghost use Rattle.glyphs.specs.Rect.{clear_of_obstacles};
 ghost use Rattle.regions.specs.Clearance.{signed_clearance};
 ghost use Rattle.regions.specs.Pieces.{rings_of};
 ghost use Rattle.lattice.specs.Context.{inset};
 
 use glyphs::bounds::Extents;
-use glyphs::rect::Point;
+use glyphs::rect::{Point, Rectangle};
 use lattice::context::PackCtx;
 use lattice::near::near_obstacles;
 use regions::keeps::clears;
@@ -23,7 +23,7 @@ pub struct Site<'a> {
     pub extents: Extents,
     pub n: usize,
     pub ctx: PackCtx,
-    pub near: &'a [f64],
+    pub near: &'a [Rectangle],
     pub margin: Margin,
     pub ghost at_inset: { margin.least ≡ inset ctx },
 }
@@ -37,23 +37,24 @@ impl<'a> Site<'a> {
         extents: Extents,
         n: usize,
         ctx: PackCtx,
-        obstacles: &[f64],
-        near: &'a mut [f64],
+        obstacles: &[Rectangle],
+        near: &'a mut [Rectangle],
     ) -> Site<'a>
         requires { length obstacles.now ≤ length near.old }
         ensures piece { result.piece ≡ piece.entry }
         ensures extents { result.extents ≡ extents }
         ensures n { result.n ≡ n }
         ensures ctx { result.ctx ≡ ctx }
-        ensures near { Beside result (rectangles obstacles.now) }
+        ensures near { Beside result obstacles.now }
     {
         let inset = ctx.inset();
+        let m = near_obstacles(obstacles, inset, extents, &mut near[..]);
         Site {
             piece,
             extents,
             n,
             ctx,
-            near: near_obstacles(obstacles, inset, extents, near),
+            near: &near[..m],
             margin: Margin::of(inset),
         }
     }
@@ -67,7 +68,7 @@ impl<'a> Site<'a> {
 
     // Whether a place keeps the clearance from the obstacles.
     pub fn clears_obstacles(&self, p: Point) -> bool
-        ensures { result ≡ clear_of_obstacles p.x p.y (rectangles self.now.near.now) (inset self.now.ctx) }
+        ensures { result ≡ clear_of_obstacles p.x p.y self.now.near.now (inset self.now.ctx) }
     {
         clears_obstacles(p.x, p.y, self.near, self.margin)
     }
@@ -76,6 +77,6 @@ impl<'a> Site<'a> {
     pub fn ends_first(&self) -> bool
         ensures { result ≡ ends_first self.now }
     {
-        self.ctx.mode.strict_obstacles | (self.near.len() / 4 == 0)
+        self.ctx.mode.strict_obstacles | self.near.is_empty()
     }
 }

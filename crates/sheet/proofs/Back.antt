@@ -27,7 +27,9 @@ length_placement z = simp (length-append, length_zone_head, length_floats) (omeg
 -- ---- read back, from a place of some bytes
 
 module _ (s : List ℕ) where
-  spots_back : (xs : List Float) (at : ℕ) (ys : List ℕ) → drop at s ≡ flat_map float_bytes xs ++ ys → AllFit xs → each (float_at s) next_float (length xs) at ≡ xs
+  spots_back :
+      (xs : List Float) (at : ℕ) (ys : List ℕ) → drop at s ≡ flat_map float_bytes xs ++ ys → AllFit xs
+      → each (float_at s) next_float (length xs) at ≡ xs
   unfolding flat_map each
   spots_back [] at ys e f = refl
   spots_back (x ∷ xs) at ys e f =
@@ -95,9 +97,11 @@ module _ (s : List ℕ) where
   unfolding flat_map each
   zones_back [] at ys e w = refl
   zones_back (z ∷ zs) at ys e w =
-      let g : drop at s ≡ placement_bytes z ++ (flat_map placement_bytes zs ++ ys) = e ∙ append_assoc (placement_bytes z) (flat_map placement_bytes zs) ys in
-      let h = behind s at (placement_bytes z) (flat_map placement_bytes zs ++ ys) g in
-      rw (placement_back z at (flat_map placement_bytes zs ++ ys) g w.0, placement_end_lem z at (flat_map placement_bytes zs ++ ys) g w.0, zones_back zs (at + length (placement_bytes z)) ys h w.1)
+      let rest = flat_map placement_bytes zs ++ ys in
+      let g : drop at s ≡ placement_bytes z ++ rest = e ∙ append_assoc (placement_bytes z) (flat_map placement_bytes zs) ys in
+      let h = behind s at (placement_bytes z) rest g in
+      let b = zones_back zs (at + length (placement_bytes z)) ys h w.1 in
+      rw (placement_back z at rest g w.0, placement_end_lem z at rest g w.0, b)
 
 -- a sheet, and whatever bytes after it
 module _ (sheet : Sheet) (ys : List ℕ) (w : WritableSheet sheet) where
@@ -129,5 +133,6 @@ module _ (sheet : Sheet) (ys : List ℕ) (w : WritableSheet sheet) where
   pub sheet_back : read_sheet (sheet_of sheet ++ ys) ≡ sheet
   unfolding read_sheet s zs from_zones
   sheet_back =
-      rw
-      (float_back sheet.radius s 5 from_zones in_radius w.fit, uint_back 2 (length sheet.zones) s 13 (zs ++ ys) in_count w.few, zones_back s sheet.zones 15 ys in_zones w.zones)
+      let radius = float_back sheet.radius s 5 from_zones in_radius w.fit in
+      let count = uint_back 2 (length sheet.zones) s 13 (zs ++ ys) in_count w.few in
+      rw (radius, count, zones_back s sheet.zones 15 ys in_zones w.zones)

@@ -27,7 +27,8 @@ put_placement l at z =
 -- the zones first, then the head before them: the sheet stands in front, and what is behind it is as it was
 pub put_sheet :
     (l : List ℕ) (sheet : Sheet) → length (sheet_of sheet) ≤ length l
-    → sets (sets l 15 (flat_map placement_bytes sheet.zones)) 0 (sheet_head (11 + length (flat_map placement_bytes sheet.zones)) sheet.radius (length sheet.zones))
+    → let zs = flat_map placement_bytes sheet.zones in
+    sets (sets l 15 zs) 0 (sheet_head (11 + length zs) sheet.radius (length sheet.zones))
     ≡ written (sheet_of sheet) l
 unfolding sheet_of
 put_sheet l sheet h =

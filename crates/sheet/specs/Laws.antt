@@ -1,11 +1,11 @@
 -- Laws of a sheet's bytes as they are put, part after part.
 -- Rests on the laws of runs of stores.
-use Rattle.std.specs.Prelude.{ℕ, suc, ◌+◌, ◌≤◌, ◌<◌, ◌≡◌, refl, length, get_or, drop, Float}
-use Rattle.std.proofs.Common.{sym, ◌∙◌, add-one, drop_of_length-le, drop-cons}
+use Rattle.std.specs.Prelude.{ℕ, zero, suc, ◌+◌, ◌-◌, ◌≤◌, ◌<◌, ◌≡◌, refl, length, get_or, take, drop, set, Float}
+use Rattle.std.proofs.Common.{sym, ◌∙◌, arith, add-one, drop_of_length-le, drop-cons}
 use mathlib.Core.List.{List, ◌++◌, append_assoc, flat_map}
 use Rattle.std.proofs.lemmas.List.Edits.{sets}
 use Rattle.format.specs.Numbers.{bytes, float_bytes}
-use Rattle.format.specs.NumberLaws.{length_bytes}
+use Rattle.format.specs.NumberLaws.{length_bytes, next_byte_lem}
 use Rattle.format.specs.RowLaws.{sets_append}
 use Rattle.format.specs.Back.{length_float}
 use Rattle.sheet.specs.Sheet.{zone_head, sheet_head}
@@ -43,14 +43,23 @@ put_zone_head l at key placed unplaced =
 
 -- ---- one turn of the loop
 
+pub key_turn :
+    {x : List ℕ} (l : List ℕ) (at : ℕ) (s : List ℕ) (k n : ℕ) → 0 < n → k + n ≤ length s → x ≡ sets l at (take n (drop k s))
+    → x ≡ sets (set l at (get_or s k 0)) (at + 1) (take (n - 1) (drop (k + 1) s))
+key_turn l at s k n m h e = e ∙ rw (next_byte_lem s k n m h, add-one at)
+
+pub key_end : {x : List ℕ} (l : List ℕ) (at : ℕ) (s : List ℕ) (k n : ℕ) → n ≤ 0 → x ≡ sets l at (take n (drop k s)) → l ≡ x
+key_end l at s k zero h e = sym e
+key_end l at s k (suc n) h e = absurd (omega arith)
+
 pub spots_turn :
     {x : List ℕ} (l : List ℕ) (at : ℕ) (spots : List Float) (i : ℕ) (d : Float) → i < length spots → x ≡ sets l at (flat_map float_bytes (drop i spots))
     → x ≡ sets (sets l at (float_bytes (get_or spots i d))) (at + 8) (flat_map float_bytes (drop (i + 1) spots))
 unfolding flat_map
 spots_turn l at spots i d h e =
-    e
-    ∙ rw
-    (drop-cons spots i d h, add-one, sets_append l at (float_bytes (get_or spots i d)) (flat_map float_bytes (drop (suc i) spots)), length_float (get_or spots i d))
+    let x = float_bytes (get_or spots i d) in
+    let xs = flat_map float_bytes (drop (suc i) spots) in
+    e ∙ rw (drop-cons spots i d h, add-one, sets_append l at x xs, length_float (get_or spots i d))
 
 pub spots_end : {x : List ℕ} (l : List ℕ) (at : ℕ) (spots : List Float) (i : ℕ) → length spots ≤ i → x ≡ sets l at (flat_map float_bytes (drop i spots)) → l ≡ x
 unfolding flat_map

@@ -20,7 +20,8 @@ pub fn put_head(sheet: &mut [u8], rest: usize, radius: f64, zones: usize)
     put_uint(sheet, 13, 2, zones as u64);
 }
 
-// Puts what stands before the spots of a zone at `at`. Answers where the spots start.
+// Puts what stands before the spots of a zone at `at`: its key, and two numbers that are no lengths of slices. Answers
+// where the spots start.
 pub fn put_zone(sheet: &mut [u8], at: usize, key: &[u8], placed: usize, unplaced: usize) -> usize
     requires { at + 5 + length key.now ≤ length sheet.old }
     ensures { (result ≡ at + 5 + length key.now) × (sheet.new ≡ sets sheet.old at (zone_head key.now placed unplaced)) }
@@ -39,9 +40,7 @@ pub fn put_spots(sheet: &mut [u8], start: usize, spots: &[f64])
     requires { start + 8 * length spots.now ≤ length sheet.old }
     ensures { sheet.new ≡ sets sheet.old start (flat_map float_bytes spots.now) }
 {
-    let mut at = start;
-    for spot in spots {
-        put_float(sheet, at, *spot);
-        at += 8;
+    for (i, spot) in spots.iter().enumerate() {
+        put_float(sheet, start + 8 * i, *spot);
     }
 }

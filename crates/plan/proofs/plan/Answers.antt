@@ -17,15 +17,17 @@ returns-in_err-job c =
     let r = c.from_residual.ensures.1 in
     let f = c.in_err-job.ensures.fault in
     let e = ends_lent a.s.now a.first.now a.second.now a.sheet.now _ (answer_in c.from_residual.result) f (numbered _) (refusal_in _ _ r) in
-    record { answer = e.answer; lent = e.lent }
+    record { answer = e.answer; first = e.lent.0; second = e.lent.1; sheet = e.lent.2 }
 
 pub returns-in_err-check_work : goal.returns-in_err-check_work
 returns-in_err-check_work c =
     let a = c.args in
     let r = c.from_residual-in_err-check_work.ensures.1 in
     let f = c.in_err-check_work.ensures in
-    let e = ends_work a.s.now a.first.now a.second.now a.sheet.now _ (answer_in c.from_residual-in_err-check_work.result) (sym c.in_ok-job.ensures.fault) f (numbered _) (refusal_in _ _ r) in
-    record { answer = e.answer; lent = e.lent }
+    let e =
+    ends_work a.s.now a.first.now a.second.now a.sheet.now _ (answer_in c.from_residual-in_err-check_work.result) (sym c.in_ok-job.ensures.fault) f
+    (numbered _) (refusal_in _ _ r) in
+    record { answer = e.answer; first = e.lent.0; second = e.lent.1; sheet = e.lent.2 }
 
 pub slice_bounds-plan_job-end : goal.slice_bounds-plan_job-end
 slice_bounds-plan_job-end c =
@@ -55,7 +57,12 @@ pub plan_job-answer-requires : goal.plan_job-answer-requires
 plan_job-answer-requires c =
     let a = c.args in
     let w = work_long (length a.first.now) (length a.second.now) (sym c.in_ok-check_work.ensures) in
-    (c.in_ok-job.ensures.job.1, rw c.in_ok-job.ensures.job.0 (lent_short a.s.now (sym c.in_ok-job.ensures.fault)), length-take-le 8000 a.first.now w.0, length-take-le 8000 a.second.now w.1)
+    record {
+      at = c.in_ok-job.ensures.job.1;
+      bytes = rw c.in_ok-job.ensures.job.0 (lent_short a.s.now (sym c.in_ok-job.ensures.fault));
+      first = length-take-le 8000 a.first.now w.0;
+      second = length-take-le 8000 a.second.now w.1;
+    }
 
 pub slice_bounds-clear-end : goal.slice_bounds-clear-end
 slice_bounds-clear-end c =
@@ -99,5 +106,7 @@ returns c =
     let w = work_long (length a.first.now) (length a.second.now) (sym c.in_ok-check_work.ensures) in
     let one = cleared_at 8000 0ᶠ c.clear.new.work c.plan_job-answer.new.first a.first.now c.clear.ensures w.0 c.first-1.given.0 in
     let two = cleared_at 8000 0ᶠ c.clear-2.new.work c.plan_job-answer.new.second a.second.now c.clear-2.ensures w.1 c.second-1.given.0 in
-    let e = ends_cleared a.s.now a.first.now a.second.now a.sheet.now (answer_in c.plan_job-answer.result) _ _ c.plan_job-answer.new.sheet (sym c.in_ok-job.ensures.fault) (sym c.in_ok-check_work.ensures) one two (rw c.in_ok-job.ensures.job.0 at c.plan_job-answer.ensures) in
-    record { answer = e.answer; lent = e.lent }
+    let e =
+    ends_cleared a.s.now a.first.now a.second.now a.sheet.now (answer_in c.plan_job-answer.result) _ _ c.plan_job-answer.new.sheet
+    (sym c.in_ok-job.ensures.fault) (sym c.in_ok-check_work.ensures) one two (rw c.in_ok-job.ensures.job.0 at c.plan_job-answer.ensures) in
+    record { answer = e.answer; first = e.lent.0; second = e.lent.1; sheet = e.lent.2 }

@@ -8,6 +8,7 @@ use lib.Seq.{sets}
 use Rattle.format.specs.Numbers.{float_bytes}
 use Rattle.sheet.proofs.put_spots.Given as goal
 
-abbrev pub invariant-loop-spot : goal.invariant-loop-spot
-invariant-loop-spot l =
-    (l.at ≡ l.start + 8 * l.spot-index) × (length l.sheet ≡ length l.initial.sheet) × (sets l.initial.sheet l.start (flat_map float_bytes l.spots) ≡ sets l.sheet l.at (flat_map float_bytes (drop l.spot-index l.spots)))
+abbrev pub invariant-loop-i : goal.invariant-loop-i
+invariant-loop-i l =
+    (length l.sheet ≡ length l.initial.sheet)
+    × (sets l.initial.sheet l.start (flat_map float_bytes l.spots) ≡ sets l.sheet (l.start + 8 * l.i) (flat_map float_bytes (drop l.i l.spots)))

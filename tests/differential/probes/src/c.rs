@@ -1,5 +1,26 @@
 //! The functions of `libprobes.a`, as `probes.h` declares them.
 
+#[repr(C)]
+pub struct ProbeRectangle {
+    pub center_x: f64,
+    pub center_y: f64,
+    pub width: f64,
+    pub height: f64,
+}
+
+/// What a packer is told.
+#[repr(C)]
+pub struct ProbePacking {
+    pub radius: f64,
+    pub gap: f64,
+    pub boundary_gap: f64,
+    pub precision: f64,
+    pub quota: usize,
+    pub attempts: u32,
+    pub spread: bool,
+    pub strict: bool,
+}
+
 /// Functions that are lent a piece before all else.
 macro_rules! of_piece {
     ($(fn $name:ident($($argument:ident: $type:ty),* $(,)?) $(-> $answer:ty)?;)*) => {
@@ -22,7 +43,7 @@ of_piece! {
     fn probe_count_clear(places: *const f64, place_floats: usize, c: f64) -> u64;
     fn probe_area() -> f64;
     fn probe_obstacles_near(
-        obstacles: *const f64, obstacle_floats: usize,
+        obstacles: *const ProbeRectangle, obstacle_count: usize,
         clearance: f64,
         near: *mut u8, near_length: usize,
     ) -> u64;
@@ -35,7 +56,7 @@ of_piece! {
     ) -> u8;
     fn probe_depth(precision: f64, cells: *mut f64, cell_floats: usize) -> f64;
     fn probe_relax_scatter(
-        obstacles: *const f64, obstacle_floats: usize,
+        obstacles: *const ProbeRectangle, obstacle_count: usize,
         spacing: f64, inset: f64,
         spots: *mut f64, spot_floats: usize,
     );
@@ -50,15 +71,14 @@ macro_rules! packers {
     ($($name:ident),*) => {
         of_piece! {
             $(fn $name(
-                obstacles: *const f64, obstacle_floats: usize,
-                settings: &[f64; 4],
-                quota: u64, attempts: u32,
-                spread: u8, strict: u8,
+                obstacles: *const ProbeRectangle, obstacle_count: usize,
+                packing: &ProbePacking,
                 state: &mut u64,
                 first: *mut f64, first_length: usize,
                 second: *mut f64, second_length: usize,
+                flags: *mut bool, flag_count: usize,
                 spots: *mut f64, spot_floats: usize,
-            ) -> u64;)*
+            ) -> usize;)*
         }
     };
 }

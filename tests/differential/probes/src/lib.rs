@@ -73,12 +73,12 @@ impl<'a> Piece<'a> {
 
     pub fn obstacles_near(self, obstacles: &[Rectangle], clearance: f64, near: &mut [u8]) -> u64 {
         assert_eq!(near.len(), obstacles.len());
-        let flat = flat_obstacles(obstacles);
+        let lent = lent_obstacles(obstacles);
         call!(
             self,
             probe_obstacles_near,
-            flat.as_ptr(),
-            flat.len(),
+            lent.as_ptr(),
+            lent.len(),
             clearance,
             near.as_mut_ptr(),
             near.len(),
@@ -117,10 +117,15 @@ pub fn ring_bounds(ring: &[f64], bounds: &mut [f64; 4]) -> u8 {
     unsafe { probe_ring_bounds(ring.as_ptr(), ring.len(), bounds) }
 }
 
-fn flat_obstacles(obstacles: &[Rectangle]) -> Vec<f64> {
+fn lent_obstacles(obstacles: &[Rectangle]) -> Vec<ProbeRectangle> {
     obstacles
         .iter()
-        .flat_map(|rect| [rect.center().x(), rect.center().y(), rect.width(), rect.height()])
+        .map(|rect| ProbeRectangle {
+            center_x: rect.center().x(),
+            center_y: rect.center().y(),
+            width: rect.width(),
+            height: rect.height(),
+        })
         .collect()
 }
 

@@ -5,7 +5,7 @@ use oracle::plotting::glyphs::GlyphArrangement;
 use oracle::plotting::glyphs::discs::layers::Packing;
 
 use crate::c::*;
-use crate::{Piece, WORK_FLOATS, flat_obstacles};
+use crate::{Piece, WORK_FLOATS, lent_obstacles};
 
 /// How many spots there are, the buffer that begins with them, and the state
 /// of the stream after them.
@@ -24,10 +24,20 @@ impl Piece<'_> {
             GlyphArrangement::Random => probe_pack_random,
             other => panic!("{other:?} has no packer"),
         };
-        let obstacles = flat_obstacles(packing.obstacles);
-        assert!(obstacles.len() <= 256 && (1..=2_000).contains(&packing.quota));
-        let settings = [packing.radius, packing.gap, packing.boundary_gap, packing.precision];
+        let obstacles = lent_obstacles(packing.obstacles);
+        assert!(obstacles.len() <= 64 && (1..=2_000).contains(&packing.quota));
+        let told = ProbePacking {
+            radius: packing.radius,
+            gap: packing.gap,
+            boundary_gap: packing.boundary_gap,
+            precision: packing.precision,
+            quota: packing.quota,
+            attempts: packing.attempts,
+            spread: packing.spread,
+            strict: packing.strict,
+        };
         let (mut first, mut second) = (vec![0.0; WORK_FLOATS], vec![0.0; WORK_FLOATS]);
+        let mut flags = vec![false; packing.quota];
         let mut buffer = vec![0.0; 2 * packing.quota];
         let mut state = packing.state;
         let placed = call!(
@@ -35,26 +45,24 @@ impl Piece<'_> {
             packer,
             obstacles.as_ptr(),
             obstacles.len(),
-            &settings,
-            packing.quota as u64,
-            packing.attempts,
-            packing.spread.into(),
-            packing.strict.into(),
+            &told,
             &mut state,
             first.as_mut_ptr(),
             first.len(),
             second.as_mut_ptr(),
             second.len(),
+            flags.as_mut_ptr(),
+            flags.len(),
             buffer.as_mut_ptr(),
             buffer.len(),
         );
-        Packed { placed, buffer, state }
+        Packed { placed: placed as u64, buffer, state }
     }
 
     /// Moves the spots, x and y in turn; the obstacles are those near.
     pub fn relax_scatter(self, near: &[Rectangle], spacing: f64, inset: f64, spots: &mut [f64]) {
         assert!(spots.len() <= 4_000 && spots.len().is_multiple_of(2));
-        let obstacles = flat_obstacles(near);
+        let obstacles = lent_obstacles(near);
         call!(
             self,
             probe_relax_scatter,

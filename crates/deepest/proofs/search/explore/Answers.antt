@@ -9,7 +9,7 @@ use Rattle.deepest.proofs.search.explore.Goals as goal
 pub loop-cell-init : goal.loop-cell-init
 loop-cell-init c =
     let w = c.args.waiting.now in
-    (refl, rw c.requires.0 (search_start _ _ _ _ _ _ _ w.heap c.requires.1))
+    (refl, rw c.requires.entered (search_start _ _ _ _ _ _ _ w.heap c.requires.few))
 
 pub returns-then-room-lt4 : goal.returns-then-room-lt4
 returns-then-room-lt4 c =

@@ -8,7 +8,7 @@ use Rattle.deepest.proofs.search.search.Goals as goal
 pub returns-in_default : goal.returns-in_default
 returns-in_default c =
     let w = c.new-waiting.ensures in
-    sym (search_over _ _ _ _ _ _ c.halves_of-halves.ensures (rw (w.cells, w.halves) at c.in_default.ensures))
+    sym (search_over _ _ _ _ _ _ c.halves_of-halves.ensures (rw (w.cells, w.halves) at c.in_default.ensures.full))
 
 pub returns : goal.returns
 unfolding centre_of

@@ -12,7 +12,11 @@ pub returns-then-room-eq0 : goal.returns-then-room-eq0
 returns-then-room-eq0 c =
     let l = c.loop-next in
     let i = l.invariant in
-    plant_over _ _ _ _ _ _ _ _ (rw c.in-Some.is at i.3) (omega (arith, i.0, c.room.ensures.places, c.if-room-eq0.true))
+    record {
+      full = plant_over _ _ _ _ _ _ _ _ (rw c.in-Some.is at i.3) (omega (arith, i.0, c.room.ensures.places, c.if-room-eq0.true));
+      halves = i.1;
+      long = i.0;
+    }
 
 pub push-requires-clause-early : goal.push-requires-clause-early
 push-requires-clause-early c = omega (arith, c.loop-next.invariant.2, c.room.ensures.few)

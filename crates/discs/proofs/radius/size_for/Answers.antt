@@ -14,23 +14,22 @@ automatic :
 unfolding size_for
 automatic fits obstacles radius ceiling r e h = rw (e, h)
 
-without : (fits : List Rectangle → Float → Bool) (obstacles : List Rectangle) (radius : Radius) (ceiling : Option Float) → radius ≡ Auto → ceiling ≡ None → size_for fits obstacles radius ceiling ≡ None
+without :
+    (fits : List Rectangle → Float → Bool) (obstacles : List Rectangle) (radius : Radius) (ceiling : Option Float)
+    → radius ≡ Auto → ceiling ≡ None → size_for fits obstacles radius ceiling ≡ None
 unfolding size_for
 without fits obstacles radius ceiling e h = rw (e, h)
 
-pub returns-then-r-is_finite : goal.returns-then-r-is_finite
+pub returns-then-r-is_finite-clause-size : goal.returns-then-r-is_finite-clause-size
 unfolding size_for
-returns-then-r-is_finite c = rw (c.in-Stated.is, ← c.is_finite.ensures, c.if-r-is_finite.true)
+returns-then-r-is_finite-clause-size c = rw (c.in-Stated.is, ← c.is_finite.ensures, c.if-r-is_finite.true)
 
-pub returns-in-Stated : goal.returns-in-Stated
+pub returns-in-Stated-clause-size : goal.returns-in-Stated-clause-size
 unfolding size_for
-returns-in-Stated c = rw (c.in-Stated.is, ← c.is_finite.ensures, c.if-r-is_finite.false)
+returns-in-Stated-clause-size c = rw (c.in-Stated.is, ← c.is_finite.ensures, c.if-r-is_finite.false)
 
-pub returns-in_err-r_hi : goal.returns-in_err-r_hi
-returns-in_err-r_hi c = c.from_residual.ensures ∙ sym (without _ _ _ _ c.in_default.is c.in_err-r_hi.was)
+pub returns-in_err-r_hi-clause-size : goal.returns-in_err-r_hi-clause-size
+returns-in_err-r_hi-clause-size c = c.from_residual.ensures ∙ sym (without _ _ _ _ c.in_default.is c.in_err-r_hi.was)
 
-pub size_under-requires : goal.size_under-requires
-size_under-requires c = c.requires
-
-pub returns : goal.returns
-returns c = ap Some c.size_under.ensures ∙ sym (automatic _ _ _ _ _ c.in_default.is c.in_ok-r_hi.was)
+pub returns-clause-size : goal.returns-clause-size
+returns-clause-size c = ap Some c.size_under.ensures.size ∙ sym (automatic _ _ _ _ _ c.in_default.is c.in_ok-r_hi.was)

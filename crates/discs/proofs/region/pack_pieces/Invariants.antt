@@ -3,16 +3,19 @@
 use Rattle.std.proofs.Common.{◌≡◌, length}
 use Rattle.std.specs.Iterator.Adapters.{zip_first, zip_second}
 use Rattle.std.specs.Slice.Iter.{iter_rest}
-use Rattle.glyphs.specs.Rect.{rectangles}
 use Rattle.discs.specs.Slices.{pieces_left}
+use Rattle.discs.specs.Bundles.{SameLent}
 use Rattle.discs.proofs.Turns.{Going}
 use Rattle.discs.proofs.region.pack_pieces.Given as goal
 
 abbrev pub invariant-loop-piece : goal.invariant-loop-piece
 invariant-loop-piece l =
-    Going l.numbers l.options l.ctx (rectangles l.obstacles) (pieces_left l.pieces) l.deepest l.quotas l.initial.rng l.initial.spots
-    (pieces_left (zip_first (zip_first l.piece-iterator))) (iter_rest (zip_second l.piece-iterator)) (iter_rest (zip_second (zip_first l.piece-iterator))) l.placed l.rng l.spots
-    × (length l.near ≡ length l.initial.near)
-    × (length l.second ≡ length l.initial.second)
-    × (length l.flags ≡ length l.initial.flags)
+    let pieces = zip_first (zip_first l.piece-iterator) in
+    let quotas = zip_second (zip_first l.piece-iterator) in
+    let points = zip_second l.piece-iterator in
+    let region = l.region in
+    let p = l.packing in
+    Going p.numbers p.options l.ctx p.obstacles.now (pieces_left region.pieces) region.deepest.now region.quotas.now l.initial.rng l.initial.spots
+    (pieces_left pieces) (iter_rest points) (iter_rest quotas) l.placed l.rng l.spots
+    × SameLent l.initial.lent l.lent
     × (length l.spots ≡ length l.initial.spots)

@@ -1,41 +1,48 @@
 -- `holds` meets its contract: a zone that is left out holds its marks.
--- Rests on the parts that the code hands on.
-use Rattle.std.proofs.Common.{◌≡◌, ◌+◌, ◌-◌, sym, ◌∙◌, arith}
+-- Rests on the contract of the zone's packing.
+use Rattle.std.proofs.Common.{◌≤◌, sym, ◌∙◌, arith}
+use Rattle.regions.specs.Ring.{sum}
 use Rattle.discs.specs.Floor.{handed_at, pack_handed, holds_all}
 use Rattle.discs.specs.Walk.{holding}
-use Rattle.discs.proofs.Zones.{part_is, left_in, lent_parts}
+use Rattle.discs.proofs.Zones.{left_in}
 use Rattle.discs.proofs.trial.holds.Goals as goal
 
-pub returns-then-not-is_left_in : goal.returns-then-not-is_left_in
+pub returns-then-not-is_left_in-clause-held : goal.returns-then-not-is_left_in-clause-held
 unfolding holding
-returns-then-not-is_left_in c =
-    let a = c.args in
-    let h = c.requires in
-    rw (left_in a.zones.bytes.now a.zones.rings.now a.zones.sizes.now a.zones.coords.now a.zones.quotas.now a.zones.deepest.now a.row a.at h.0.stands.pieces, ← c.is_left_in.ensures, c.if-not-is_left_in.true)
-
-pub pieces_at-requires : goal.pieces_at-requires
-pieces_at-requires c = let h = c.requires.0.stands in (h.pieces, h.ring, h.coord, h.laid)
+returns-then-not-is_left_in-clause-held c =
+    let z = c.args.zones in
+    let h = c.requires.packable.stands in
+    rw (
+      left_in z.bytes.now z.rings.now z.sizes.now z.coords.now z.quotas.now z.deepest.now c.args.row c.args.at h.pieces,
+      ← c.is_left_in.ensures,
+      c.if-not-is_left_in.true,
+    )
 
 pub pack_region-placed-requires : goal.pack_region-placed-requires
+unfolding handed_at
 pack_region-placed-requires c =
-    let a = c.args in
-    let h = c.requires in
+    let w = c.args.work.now in
     let left = sym c.is_left_in.ensures ∙ c.if-not-is_left_in.false in
-    (rw c.pieces_at.ensures.rings (lent_parts a.zones.bytes.now a.zones.rings.now a.zones.sizes.now a.zones.coords.now a.zones.quotas.now a.zones.deepest.now a.row a.at a.packing.obstacles.now a.near.now a.work.now.second.now a.work.now.flags.now a.work.now.spots.now h.0 left (record { room_near = h.1; room_second = a.work.now.room_second; room_flags = a.work.now.room_flags; room_spots = a.work.now.room_spots })), λ t. h.3)
+    let few : sum c.region_at-region.result.quotas.now ≤ 2000 = rw c.region_at-region.ensures.quotas (c.requires.packable.few left) in
+    record {
+      room = record { near = c.requires.near; second = omega (arith, few, w.room_second); flags = omega (arith, few, w.room_flags) };
+      spots = omega (arith, few, w.room_spots);
+      strict = λ t. c.requires.strict;
+    }
 
-pub returns : goal.returns
+pub returns-clause-held : goal.returns-clause-held
 unfolding holding holds_all pack_handed handed_at
-returns c =
-    let a = c.args in
-    let h = c.requires in
-    let e : a.row.key + a.row.len - a.row.key ≡ a.row.len = omega arith in
+returns-clause-held c =
+    let z = c.args.zones in
+    let h = c.requires.packable.stands in
+    let region = c.region_at-region.ensures in
     rw (
-      left_in a.zones.bytes.now a.zones.rings.now a.zones.sizes.now a.zones.coords.now a.zones.quotas.now a.zones.deepest.now a.row a.at h.0.stands.pieces,
+      left_in z.bytes.now z.rings.now z.sizes.now z.coords.now z.quotas.now z.deepest.now c.args.row c.args.at h.pieces,
       ← c.is_left_in.ensures,
       c.if-not-is_left_in.false,
-      c.pack_region-placed.ensures.counted,
-      e,
-      c.pieces_at.ensures.pieces,
-      part_is a.at.piece a.row.pieces a.zones.quotas.now,
-      part_is a.at.piece a.row.pieces a.zones.deepest.now,
+      c.pack_region-placed.ensures.placed.counted,
+      region.key,
+      region.pieces,
+      region.quotas,
+      region.deepest,
     )

@@ -22,7 +22,8 @@ pub loop-byte-preserved : goal.loop-byte-preserved
 loop-byte-preserved c =
     let l = c.loop-byte in
     let b = c.args.bytes.now in
-    ((digit_room l.byte-index l.number _ (omega arith) l.invariant.0 (c.type_inv.bytes l.byte-index).fits).0, sym (uint_next l.byte-index b 0 ∙ rw (← l.invariant.1, zero-add)))
+    let room = digit_room l.byte-index l.number _ (omega arith) l.invariant.0 (c.type_inv.bytes l.byte-index).fits in
+    (room.0, sym (uint_next l.byte-index b 0 ∙ rw (← l.invariant.1, zero-add)))
 
 pub loop-byte-init : goal.loop-byte-init
 unfolding uint

@@ -5,6 +5,9 @@ use Rattle.glyphs.specs.Halton.{radical_inverse, digits}
 use Rattle.glyphs.specs.Digits.{weight_at, Left}
 use Rattle.glyphs.proofs.halton.inverse_by.Given as goal
 
-abbrev pub invariant-loop-weight : goal.invariant-loop-weight
-invariant-loop-weight l =
-    Left l.weight-index l.rest × (digits l.rest l.base l.rest l.value (weight_at l.base l.weight-index) ≡ radical_inverse l.index l.base)
+abbrev pub invariant-loop-rest : goal.invariant-loop-rest
+invariant-loop-rest l =
+    Left l.j l.rest × (digits l.rest l.base l.rest l.value (weight_at l.base l.j) ≡ radical_inverse l.index l.base)
+
+abbrev pub decreases-loop-rest : goal.decreases-loop-rest
+decreases-loop-rest l = l.rest

@@ -1,39 +1,26 @@
 -- `clear_of_obstacles` meets its contract. The invariant: the answer is that of the obstacles which are left.
--- Rests on the laws that take a list of obstacles apart.
-use Rattle.std.proofs.Common.{rules}
-use native.Mathlib.Nat.{sub-zero}
-use Rattle.glyphs.specs.Rect.{rectangles, clear_of_obstacles, rects_step, rects_end}
+-- Rests on the laws of what is left of some obstacles.
+use Rattle.std.proofs.Common.{sym, ◌∙◌}
+use Rattle.glyphs.specs.Rect.{clear_stops, clear_goes_on, clear_ends}
 use Rattle.glyphs.proofs.rect.clear_of_obstacles.Goals as goal
 
-pub loop-k-init : goal.loop-k-init
-unfolding rectangles
-loop-k-init c = (search rules, search rules, simp sub-zero)
-
 pub returns-then-not-dist_to_rect-clearance : goal.returns-then-not-dist_to_rect-clearance
-unfolding clear_of_obstacles
 returns-then-not-dist_to_rect-clearance c =
-    rw (
-      c.loop-k.invariant.2,
-      rects_step _ _ _ c.loop-k-test.true,
-      ← c.obstacle.ensures,
-      ← c.dist_to_rect.ensures,
-      c.if-not-dist_to_rect-clearance.true,
-    )
+    let a = c.args in
+    let l = c.loop-rect in
+    sym
+    (l.invariant
+    ∙ clear_stops a.px a.py a.clearance a.obstacles.now l.rect-index _ c.loop-rect-test.true (rw c.dist_to_rect.ensures at c.if-not-dist_to_rect-clearance.true))
 
-pub loop-k-preserved : goal.loop-k-preserved
-unfolding clear_of_obstacles
-loop-k-preserved c = (
-  search rules,
-  search rules,
-  rw (
-    c.loop-k.invariant.2,
-    rects_step _ _ _ c.loop-k-test.true,
-    ← c.obstacle.ensures,
-    ← c.dist_to_rect.ensures,
-    c.if-not-dist_to_rect-clearance.false,
-  ),
-)
+pub loop-rect-preserved : goal.loop-rect-preserved
+loop-rect-preserved c =
+    let a = c.args in
+    let l = c.loop-rect in
+    l.invariant
+    ∙ clear_goes_on a.px a.py a.clearance a.obstacles.now l.rect-index _ c.loop-rect-test.true (rw c.dist_to_rect.ensures at c.if-not-dist_to_rect-clearance.false)
 
 pub returns : goal.returns
-unfolding clear_of_obstacles
-returns c = rw (c.loop-k.invariant.2, rects_end _ _ _ c.loop-k-test.false)
+returns c =
+    let a = c.args in
+    let l = c.loop-rect in
+    sym (l.invariant ∙ clear_ends a.px a.py a.clearance a.obstacles.now l.rect-index c.loop-rect-test.false)

@@ -1,6 +1,6 @@
 -- `apart_from_eight` meets its contract. The invariant: `ok` is the answer for the first j of the eight.
 -- Rests on the laws of `all` over the first elements.
-use Rattle.std.proofs.Common.{◌≡◌, ◌+◌, ◌<◌, length, get_or, drop, refl, ◌∙◌, arith, length-drop, get_or-drop, rules}
+use Rattle.std.proofs.Common.{◌≡◌, ◌+◌, ◌<◌, length, get_or, drop, refl, ◌∙◌, arith, length-drop, get_or-drop}
 use Rattle.laws.specs.Any.{all}
 use Rattle.laws.specs.Blocks.{all_next}
 use Rattle.glyphs.specs.Spots.{apart, spots_of, spots_at_lem, length_spots}

@@ -2,15 +2,15 @@
 -- Rests on what `row_room` ensures.
 use mathlib.Core.Path.{◌≡◌, refl}
 use mathlib.Core.List.{List}
-use Prim.Native.Nat.{ℕ, ◌+◌, ◌<◌, ◌≤◌}
+use Prim.Native.Nat.{ℕ, ◌+◌, ◌<◌}
 use native.Mathlib.Omega.{arith}
 use native.Mathlib.Numerals.{add-one}
-use lib.ListN.{length, drop, get_or, drop_of_length-le}
+use lib.ListN.{length, drop, get_or}
 use lib.Seq.{drop-cons}
 use Rattle.laws.specs.Every.{Every}
 use Rattle.discs.specs.declared.rows.Row.{Row}
 use Rattle.job.specs.Job.{row_room, rows_room}
-use Rattle.job.specs.Rows.{Fits}
+use Rattle.job.specs.Rows.{Fits, rooms_turn, rooms_end}
 use Rattle.job.proofs.room.sheet_room.Goals as goal
 
 fits_turn : (rows : List Row) (k : ℕ) (d : Row) → k < length rows → Every Fits (drop k rows) → Fits (get_or rows k d) × Every Fits (drop (k + 1) rows)
@@ -19,16 +19,10 @@ fits_turn rows k d h e = rw (add-one k) (rw (drop-cons rows k d h) at e)
 fits_rest : (rows : List Row) (k : ℕ) → k < length rows → Every Fits (drop k rows) → Every Fits (drop (k + 1) rows)
 fits_rest rows k h e = (fits_turn rows k (record { key = 0; len = 0; count = 0; pieces = 0 }) h e).1
 
-rooms_turn : (rows : List Row) (k : ℕ) (d : Row) → k < length rows → rows_room (drop k rows) ≡ row_room (get_or rows k d) + rows_room (drop (k + 1) rows)
-unfolding rows_room
-rooms_turn rows k d h = rw (add-one k, drop-cons rows k d h)
-
-rooms_end : (rows : List Row) (k : ℕ) → length rows ≤ k → rows_room (drop k rows) ≡ 0
-unfolding rows_room
-rooms_end rows k h = rw (drop_of_length-le rows h)
-
 -- the room with that of the row at hand
-next_room : (rows : List Row) (k room part all : ℕ) (d : Row) → k < length rows → part ≡ row_room (get_or rows k d) → room + rows_room (drop k rows) ≡ all → room + part + rows_room (drop (k + 1) rows) ≡ all
+next_room :
+    (rows : List Row) (k room part all : ℕ) (d : Row) → k < length rows → part ≡ row_room (get_or rows k d) → room + rows_room (drop k rows) ≡ all
+    → room + part + rows_room (drop (k + 1) rows) ≡ all
 next_room rows k room part all d h p e = omega (arith, rooms_turn rows k d h)
 
 pub loop-row-init : goal.loop-row-init
@@ -41,7 +35,8 @@ pub loop-row-preserved : goal.loop-row-preserved
 loop-row-preserved c =
     let l = c.loop-row in
     let h = c.loop-row-test.true in
-    (omega (arith, c.row_room-room.ensures.1), fits_rest _ _ h l.invariant.1, next_room c.args.rows.now l.row-index l.room _ _ _ h c.row_room-room.ensures.0 l.invariant.2)
+    let r = c.row_room-room.ensures in
+    (omega (arith, r.1), fits_rest _ _ h l.invariant.1, next_room c.args.rows.now l.row-index l.room _ _ _ h r.0 l.invariant.2)
 
 pub returns : goal.returns
 returns c =

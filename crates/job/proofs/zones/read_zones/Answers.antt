@@ -14,62 +14,93 @@ use Rattle.job.specs.Steps.{place_of}
 use Rattle.job.proofs.zones.read_zones.Goals as goal
 
 pub loop-z-init : goal.loop-z-init
-loop-z-init c =
+loop-z-init g c =
     let n = c.args.n in
     let e : n - 0 ≡ n = omega arith in
-    rw e (refl, c.requires.0, c.requires.1, c.requires.2, refl, refl, refl, refl, refl, refl, refl)
+    let r = c.requires in
+    rw e (
+    record {
+      same = refl;
+      coord_room = r.coord_room;
+      ring_room = r.ring_room;
+      piece_room = r.piece_room;
+      rows_kept = refl;
+      few = omega arith;
+      few_rings = omega arith;
+      few_pieces = omega arith;
+      faults = refl;
+      end = refl;
+      coords = refl;
+      sizes = refl;
+      rings = refl;
+      rows = refl;
+    }
+    )
 
 pub returns-in_err-row-clause-fault : goal.returns-in_err-row-clause-fault
-returns-in_err-row-clause-fault c =
+returns-in_err-row-clause-fault g c =
     let l = c.loop-z in
     let s = c.args.job.now.bytes.now in
-    stopped (zone_next s) (zone_fault s) _ _ c.args.n l.z (place_of l.job.at l.before) (omega arith) (rw l.invariant.0 at c.in_err-row.ensures.fault) l.invariant.5 c.from_residual.ensures.1
+    let f = rw l.invariant.same at c.in_err-row.ensures.fault in
+    stopped (zone_next s) (zone_fault s) _ _ c.args.n l.z (place_of l.job.at l.before) (omega arith) f l.invariant.faults c.from_residual.ensures.1
 
 pub loop-z-preserved : goal.loop-z-preserved
-loop-z-preserved c =
+loop-z-preserved g c =
     let l = c.loop-z in
+    let h = l.invariant in
     let s = c.args.job.now.bytes.now in
     let n = c.args.n in
     let z = l.z in
     let at = l.job.at in
     let m : z < n = omega arith in
     let o = c.in_ok-row.ensures in
-    let f = rw l.invariant.0 at o.fault in
-    let r = rw l.invariant.0 at o.read in
+    let f = rw h.same at o.fault in
+    let r = rw h.same at o.read in
     let p = r.put in
-    let few = zone_few s (place_of at l.before) (sym f) in (
-      o.bytes ∙ l.invariant.0,
-      record { behind = p.behind; short = l.invariant.1.short },
-      rw p.sizes (simp length-append (omega (arith, few.sizes, l.invariant.2))),
-      rw p.rings (simp length-append (omega (arith, few.rings, l.invariant.3))),
-      length-sets l.rows z (c.in_ok-row.row ∷ []) ∙ l.invariant.4,
-      faults_turn (zone_next s) (zone_fault s) n z (place_of at l.before) m f r.place l.invariant.5,
-      past_turn (zone_end s) n z at m p.at l.invariant.6,
-      flat_turn (zone_end s) (zone_coords s) l.pieces.coords.items n z at m p.at p.coords l.invariant.7,
-      flat_turn (zone_end s) (zone_sizes s) l.pieces.sizes.items n z at m p.at p.sizes l.invariant.8,
-      flat_turn (zone_end s) (zone_rings s) l.pieces.rings.items n z at m p.at p.rings l.invariant.9,
-      put_turn (zone_end s) (zone_row s) l.rows z n z at m p.at (omega (arith, length_row s at)) (unfold zone_row in rw r.numbers) l.invariant.10,
-    )
+    let inside = rw (o.bytes, h.same) at c.read_zone.new.job.inside in
+    let few = zone_few s (place_of at l.before) (sym f) in
+    record {
+      same = o.bytes ∙ h.same;
+      coord_room = omega (arith, p.few, inside, h.coord_room);
+      ring_room = rw p.sizes (simp length-append (omega (arith, few.sizes, h.ring_room)));
+      piece_room = rw p.rings (simp length-append (omega (arith, few.rings, h.piece_room)));
+      rows_kept = length-sets l.rows z (c.in_ok-row.row ∷ []) ∙ h.rows_kept;
+      few = omega (arith, p.few, h.few);
+      few_rings = rw p.sizes (simp length-append (omega (arith, few.sizes, h.few_rings)));
+      few_pieces = rw p.rings (simp length-append (omega (arith, few.rings, h.few_pieces)));
+      faults = faults_turn (zone_next s) (zone_fault s) n z (place_of at l.before) m f r.place h.faults;
+      end = past_turn (zone_end s) n z at m p.at h.end;
+      coords = flat_turn (zone_end s) (zone_coords s) l.pieces.coords.items n z at m p.at p.coords h.coords;
+      sizes = flat_turn (zone_end s) (zone_sizes s) l.pieces.sizes.items n z at m p.at p.sizes h.sizes;
+      rings = flat_turn (zone_end s) (zone_rings s) l.pieces.rings.items n z at m p.at p.rings h.rings;
+      rows =
+          put_turn (zone_end s) (zone_row s) l.rows z n z at m p.at (omega (arith, length_row s at)) (unfold zone_row in rw r.numbers) h.rows;
+    }
 
 pub returns-clause-fault : goal.returns-clause-fault
-returns-clause-fault c =
+returns-clause-fault g c =
     let l = c.loop-z in
     let s = c.args.job.now.bytes.now in
-    faults_end (zone_next s) (zone_fault s) c.args.n l.z (place_of l.job.at l.before) (omega arith) l.invariant.5
+    faults_end (zone_next s) (zone_fault s) c.args.n l.z (place_of l.job.at l.before) (omega arith) l.invariant.faults
 
 pub returns-clause-read : goal.returns-clause-read
-returns-clause-read c =
+returns-clause-read g c =
     let l = c.loop-z in
+    let h = l.invariant in
     let s = c.args.job.now.bytes.now in
     let n = c.args.n in
+    let z = l.z in
     let at = l.job.at in
+    let e : z ≡ n = omega arith in
     record {
       put = record {
-        at = past_end (zone_end s) n l.z at (omega arith) l.invariant.6;
-        behind = l.invariant.1.behind;
-        coords = flat_end (zone_end s) (zone_coords s) l.pieces.coords.items n l.z at (omega arith) l.invariant.7;
-        sizes = flat_end (zone_end s) (zone_sizes s) l.pieces.sizes.items n l.z at (omega arith) l.invariant.8;
-        rings = flat_end (zone_end s) (zone_rings s) l.pieces.rings.items n l.z at (omega arith) l.invariant.9;
+        at = past_end (zone_end s) n z at (omega arith) h.end;
+        few = h.few;
+        coords = flat_end (zone_end s) (zone_coords s) l.pieces.coords.items n z at (omega arith) h.coords;
+        sizes = flat_end (zone_end s) (zone_sizes s) l.pieces.sizes.items n z at (omega arith) h.sizes;
+        rings = flat_end (zone_end s) (zone_rings s) l.pieces.rings.items n z at (omega arith) h.rings;
       };
-      row = put_end (zone_end s) (zone_row s) l.rows l.z n l.z at (omega arith) l.invariant.10;
+      row = put_end (zone_end s) (zone_row s) l.rows z n z at (omega arith) h.rows;
+      few_rings = omega (arith, h.few_rings);
+      few_pieces = omega (arith, h.few_pieces);
     }

@@ -3,14 +3,14 @@
 use Rattle.lattice.specs.Tally.{count_cell}
 use Rattle.lattice.proofs.count.count_cell.Goals as goal
 
-pub returns-then-clears-2 : goal.returns-then-clears-2
+pub returns-then-clears_pillars : goal.returns-then-clears_pillars
 unfolding count_cell
-returns-then-clears-2 c = rw (← c.clears.ensures, c.if-clears.true, ← c.clears-then-clears.ensures, c.if-clears-2.true)
+returns-then-clears_pillars c = rw (← c.clears_rings.ensures, c.if-clears_rings.true, ← c.clears_pillars.ensures, c.if-clears_pillars.true)
 
-pub returns-then-clears : goal.returns-then-clears
+pub returns-then-clears_rings : goal.returns-then-clears_rings
 unfolding count_cell
-returns-then-clears c = rw (← c.clears.ensures, c.if-clears.true, ← c.clears-then-clears.ensures, c.if-clears-2.false)
+returns-then-clears_rings c = rw (← c.clears_rings.ensures, c.if-clears_rings.true, ← c.clears_pillars.ensures, c.if-clears_pillars.false)
 
 pub returns : goal.returns
 unfolding count_cell
-returns c = rw (← c.clears.ensures, c.if-clears.false)
+returns c = rw (← c.clears_rings.ensures, c.if-clears_rings.false)

@@ -1,10 +1,9 @@
 -- `inside_level` meets its contract. The invariant: the answer is that of the holes which are left.
 -- Rests on the laws that take the ends apart ring by ring.
-use Rattle.std.proofs.Common.{◌≡◌, not}
-use lib.Seq.{slice}
+use Rattle.std.proofs.Common.{◌≡◌, not, drop, length}
 use Rattle.lattice.specs.Crossings.{odd_any, inside_level, Ascend}
 use Rattle.lattice.proofs.crossings.inside_level.Given as goal
 
 abbrev pub invariant-loop-k : goal.invariant-loop-k
 invariant-loop-k l =
-    Ascend l.from (slice l.k l.rings l.ends) × (inside_level l.x l.rings l.crossings l.ends ≡ not (odd_any l.x l.crossings l.from (slice l.k l.rings l.ends)))
+    Ascend (length l.crossings) l.from (drop l.k l.ends) × (inside_level l.x l.crossings l.ends ≡ not (odd_any l.x l.crossings l.from (drop l.k l.ends)))

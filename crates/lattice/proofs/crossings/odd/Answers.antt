@@ -6,7 +6,9 @@ use lib.Ieee.{Float}
 use Rattle.lattice.specs.Crossings.{odd, turn, turn_is}
 use Rattle.lattice.proofs.crossings.odd.Goals as goal
 
-next_turn : (x : Float) (b : Bool) (l : List Float) (k : ℕ) (d : Float) → k < length l → foldl (turn x) b (drop k l) ≡ foldl (turn x) (turn x b (get_or l k d)) (drop (k + 1) l)
+next_turn :
+    (x : Float) (b : Bool) (l : List Float) (k : ℕ) (d : Float) → k < length l
+    → foldl (turn x) b (drop k l) ≡ foldl (turn x) (turn x b (get_or l k d)) (drop (k + 1) l)
 next_turn x b l k d h = rw (add-one, drop-cons l k d)
 
 pub loop-c-preserved : goal.loop-c-preserved

@@ -24,7 +24,8 @@ unfolding keeps_edges
 loop-edge-preserved c =
     let a = c.args in
     c.loop-edge.invariant
-    ∙ goes_on (keeps a.p.x a.p.y a.margin.least) a.edges.now c.loop-edge.edge-index _ c.loop-edge-test.true (sym c.keeps_edge.ensures ∙ c.if-not-keeps_edge.false)
+    ∙ goes_on (keeps a.p.x a.p.y a.margin.least) a.edges.now c.loop-edge.edge-index _ c.loop-edge-test.true
+    (sym c.keeps_edge.ensures ∙ c.if-not-keeps_edge.false)
 
 pub returns : goal.returns
 unfolding keeps_edges

@@ -3,7 +3,6 @@
 use Rattle.std.proofs.Common.{◌≡◌, sym, refl, ap, ◌∙◌, rules}
 use mathlib.Core.List.{List}
 use Rattle.glyphs.specs.declared.rect.Point.{Point}
-use Rattle.glyphs.specs.Rect.{rectangles}
 use Rattle.regions.specs.Pieces.{rings_of}
 use Rattle.lattice.specs.Gather.{gather, gather_fit, rows_turn, cells_gathered}
 use Rattle.lattice.specs.Gathered.{kept_of, held_by}
@@ -18,7 +17,7 @@ loop-row-init c =
     let a = c.args in
     let e : cells_left c.into_iter-row-iterator.result ≡ walk a.field = search rules in
     let rings = rings_of a.site.piece in
-    let near = rectangles a.site.near.now in (
+    let near = a.site.near.now in (
       tt,
       tt,
       refl,
@@ -28,7 +27,8 @@ loop-row-init c =
       ready_none a.field.anchor a.nf a.nb a.free.now a.blocked.now c.requires.0 c.requires.1,
       holds_as (holds_none a.free.now a.blocked.now) (sym (held_none a.free.now a.blocked.now)),
       ap (gather rings a.site.margin.least near a.field.anchor a.nf a.nb no_cells) (sym e)
-          ∙ ap (λ (cells : HexCells). gather rings a.site.margin.least near a.field.anchor a.nf a.nb cells (cells_left c.into_iter-row-iterator.result)) (sym (held_none a.free.now a.blocked.now)),
+          ∙ ap (λ (cells : HexCells). gather rings a.site.margin.least near a.field.anchor a.nf a.nb cells
+          (cells_left c.into_iter-row-iterator.result)) (sym (held_none a.free.now a.blocked.now)),
     )
 
 pub loop-row-preserved : goal.loop-row-preserved
@@ -37,7 +37,7 @@ loop-row-preserved c =
     let a = c.args in
     let anchor = a.field.anchor in
     let rings = rings_of a.site.piece in
-    let near = rectangles a.site.near.now in
+    let near = a.site.near.now in
     let cells = held_in (kept_of l.gathering.t) l.gathering.free.now l.gathering.blocked.now in
     let held =
     turn anchor a.nf a.nb (kept_of l.gathering.t) l.gathering.free.now l.gathering.blocked.now l.invariant.6 a.free.now a.blocked.now l.invariant.7
@@ -62,11 +62,12 @@ returns c =
     let l = c.loop-row in
     let a = c.args in
     let rings = rings_of a.site.piece in
-    let near = rectangles a.site.near.now in
+    let near = a.site.near.now in
     let held =
     holds_as l.invariant.7
     (sym
     (cells_gathered rings a.site.margin.least near a.field.anchor a.nf a.nb a.field
     ∙ l.invariant.8
-    ∙ ap (λ (rows : List (List Point)). gather rings a.site.margin.least near a.field.anchor a.nf a.nb (held_by l.gathering) (joined rows)) c.in-None.ensures.steps.0)) in
+    ∙ ap (λ (rows : List (List Point)). gather rings a.site.margin.least near a.field.anchor a.nf a.nb (held_by l.gathering) (joined rows))
+    c.in-None.ensures.steps.0)) in
     search rules

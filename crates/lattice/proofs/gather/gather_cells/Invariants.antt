@@ -1,7 +1,6 @@
 -- `gather_cells` meets its contract. The invariant: the cells are those gathered from what the slices hold and the rows which are left.
 -- Rests on the laws of what two slices hold and of a turn over the rows.
 use Rattle.std.proofs.Common.{◌≡◌, length}
-use Rattle.glyphs.specs.Rect.{rectangles}
 use Rattle.regions.specs.Pieces.{rings_of}
 use Rattle.lattice.specs.Gather.{gather}
 use Rattle.lattice.specs.Gathered.{held_by, IsReady, HoldsNow}
@@ -13,7 +12,7 @@ use Rattle.lattice.proofs.gather.gather_cells.Given as goal
 abbrev pub invariant-loop-row : goal.invariant-loop-row
 invariant-loop-row l =
     let rings = rings_of l.site.piece in
-    let near = rectangles l.site.near.now in
+    let near = l.site.near.now in
     let w = l.wanted in
     (goal.iterator-loop-row).can_next l.row-iterator
     × (goal.iterator-loop-row).is_finite l.row-iterator

@@ -3,6 +3,7 @@
 use Rattle.std.proofs.Common.{ap, ◌∙◌}
 use Rattle.laws.specs.Orders.{is_lt}
 use Rattle.glyphs.specs.declared.rect.Point.{Point}
+use Rattle.lattice.specs.Flat.{spot_is}
 use Rattle.lattice.specs.Lattice.{by_anchor}
 use Rattle.lattice.specs.Run.{before_none, before_some}
 use Rattle.lattice.proofs.nearest.is_before_last.Goals as goal
@@ -16,5 +17,5 @@ pub returns : goal.returns
 returns c =
     let a = c.args in
     c.precedes.ensures
-    ∙ ap (λ (q : Point). is_lt (by_anchor a.anchor a.p q)) c.cell.ensures
+    ∙ ap (λ (q : Point). is_lt (by_anchor a.anchor a.p q)) (c.spot.ensures ∙ spot_is _ _)
     ∙ before_some a.anchor a.p a.cells.now a.i c.if-i-eq0.false

@@ -1,8 +1,8 @@
 -- `keep` meets its contract: a place is looked for, room made and the cell put there.
 -- Rests on the laws of what that writes.
-use Rattle.std.proofs.Common.{◌≤◌, arith}
+use Rattle.std.proofs.Common.{◌≤◌, ◌∙◌, arith}
 use Rattle.laws.specs.Bounded.{lead_le}
-use Rattle.lattice.specs.Flat.{points, length_points}
+use Rattle.lattice.specs.Flat.{points, put_is, length_points}
 use Rattle.lattice.specs.Lattice.{by_anchor}
 use Rattle.lattice.specs.Nearest.{kept_put, kept_full}
 use Rattle.lattice.proofs.nearest.keep.Goals as goal
@@ -17,7 +17,11 @@ pub returns-then-k-cap : goal.returns-then-k-cap
 returns-then-k-cap c =
     let a = c.args in (
       omega arith,
-      cc (kept_put (by_anchor a.anchor) a.cells.now a.m a.cap c.place-k.result a.p c.requires.0 c.requires.1 c.place-k.ensures c.min-e.result c.min-e.ensures c.if-k-cap.true),
+      cc (
+        kept_put (by_anchor a.anchor) a.cells.now a.m a.cap c.place-k.result a.p c.requires.0 c.requires.1 c.place-k.ensures c.min-e.result
+            c.min-e.ensures c.if-k-cap.true,
+        c.put_spot.ensures ∙ put_is _ _ _,
+      ),
     )
 
 pub returns : goal.returns

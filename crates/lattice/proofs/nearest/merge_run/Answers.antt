@@ -3,7 +3,7 @@
 use Rattle.std.proofs.Common.{◌≡◌, ℕ, zero, suc, ◌+◌, ◌-◌, ◌<◌, true, false, List, sym, ap, ◌∙◌, subst, arith}
 use lib.Ieee.{Float}
 use Rattle.glyphs.specs.declared.rect.Point.{Point}
-use Rattle.lattice.specs.Flat.{point_at}
+use Rattle.lattice.specs.Flat.{point_at, spot_is}
 use Rattle.lattice.specs.Run.{before_last, put_below, Merging, merge_start, merge_old, merge_new, merge_done}
 use Rattle.lattice.proofs.nearest.merge_run.Goals as goal
 
@@ -18,44 +18,47 @@ loop-j-init c =
     merge_start a.anchor a.cells.now a.run.now a.m a.cap a.k c.requires.0 c.requires.1 c.requires.2 c.requires.3 c.requires.4
 
 pub overflow_sub-i : goal.overflow_sub-i
-overflow_sub-i c = omega (arith, some_left c.args.anchor c.cell-p.result c.loop-i.cells c.loop-i.i (sym c.is_before_last.ensures ∙ c.loop-i-test.true))
+overflow_sub-i c = omega (arith, some_left c.args.anchor c.spot-p.result c.loop-i.cells c.loop-i.i (sym c.is_before_last.ensures ∙ c.loop-i-test.true))
 
-pub cell-q-requires : goal.cell-q-requires
-cell-q-requires c =
-    let some-old = some_left c.args.anchor c.cell-p.result c.loop-i.cells c.loop-i.i (sym c.is_before_last.ensures ∙ c.loop-i-test.true) in
+pub spot-q-requires : goal.spot-q-requires
+spot-q-requires c =
+    let some-old = some_left c.args.anchor c.spot-p.result c.loop-i.cells c.loop-i.i (sym c.is_before_last.ensures ∙ c.loop-i-test.true) in
     omega (arith, c.loop-i.invariant.old_left, c.loop-i.invariant.as_long)
 
 pub loop-i-smaller : goal.loop-i-smaller
-loop-i-smaller c = omega (arith, some_left c.args.anchor c.cell-p.result c.loop-i.cells c.loop-i.i (sym c.is_before_last.ensures ∙ c.loop-i-test.true))
+loop-i-smaller c = omega (arith, some_left c.args.anchor c.spot-p.result c.loop-i.cells c.loop-i.i (sym c.is_before_last.ensures ∙ c.loop-i-test.true))
 
 pub loop-i-preserved : goal.loop-i-preserved
 loop-i-preserved c =
     let a = c.args in
     let e : c.loop-j.j - 1 + 1 - 1 ≡ c.loop-j.j - 1 = omega arith in
     let asked : before_last a.anchor (point_at a.run.now (c.loop-j.j - 1 + 1 - 1)) c.loop-i.cells c.loop-i.i ≡ c.is_before_last.result =
-    rw e (ap (λ (p : Point). before_last a.anchor p c.loop-i.cells c.loop-i.i) (sym c.cell-p.ensures) ∙ sym c.is_before_last.ensures) in
+    rw e (ap (λ (p : Point). before_last a.anchor p c.loop-i.cells c.loop-i.i) (sym (c.spot-p.ensures ∙ spot_is _ _)) ∙ sym c.is_before_last.ensures) in
     let f : c.loop-i.i - 1 + (c.loop-j.j - 1 + 1) ≡ c.loop-i.i - 1 + (c.loop-j.j - 1) + 1 = omega arith in
     let merged =
     (merge_old a.anchor a.cells.now a.run.now a.m a.cap a.k c.requires.0 c.requires.1 c.requires.2 c.requires.3 c.requires.4
     c.loop-i.i (c.loop-j.j - 1 + 1) c.loop-i.cells c.loop-i.invariant (omega arith) (asked ∙ c.loop-i-test.true)).1 in
     subst (Merging a.anchor a.cells.now a.run.now a.m a.cap a.k (c.loop-i.i - 1) (c.loop-j.j - 1 + 1))
-    (sym (c.put_below.ensures ∙ rw f (ap (put_below a.cap c.loop-i.cells (c.loop-i.i - 1 + (c.loop-j.j - 1) + 1)) c.cell-q.ensures))) merged
+    (sym (c.put_below.ensures ∙ rw f (ap (put_below a.cap c.loop-i.cells (c.loop-i.i - 1 + (c.loop-j.j - 1) + 1)) (c.spot-q.ensures ∙ spot_is _ _)))) merged
 
 pub loop-j-preserved : goal.loop-j-preserved
 loop-j-preserved c =
     let a = c.args in
     let e : c.loop-j.j - 1 + 1 - 1 ≡ c.loop-j.j - 1 = omega arith in
     let asked : before_last a.anchor (point_at a.run.now (c.loop-j.j - 1 + 1 - 1)) c.loop-i.cells c.loop-i.i ≡ c.is_before_last.result =
-    rw e (ap (λ (p : Point). before_last a.anchor p c.loop-i.cells c.loop-i.i) (sym c.cell-p.ensures) ∙ sym c.is_before_last.ensures) in
+    rw e (ap (λ (p : Point). before_last a.anchor p c.loop-i.cells c.loop-i.i) (sym (c.spot-p.ensures ∙ spot_is _ _)) ∙ sym c.is_before_last.ensures) in
     let merged =
     rw e at
     (merge_new a.anchor a.cells.now a.run.now a.m a.cap a.k c.requires.0 c.requires.1 c.requires.2 c.requires.3 c.requires.4
     c.loop-i.i (c.loop-j.j - 1 + 1) c.loop-i.cells c.loop-i.invariant (omega arith) (asked ∙ c.loop-i-test.false)) in
     subst (Merging a.anchor a.cells.now a.run.now a.m a.cap a.k c.loop-i.i (c.loop-j.j - 1))
-    (sym (c.put_below-in-loop-j.ensures ∙ ap (put_below a.cap c.loop-i.cells (c.loop-i.i + (c.loop-j.j - 1))) c.cell-p.ensures)) merged
+    (sym (c.put_below-in-loop-j.ensures ∙ ap (put_below a.cap c.loop-i.cells (c.loop-i.i + (c.loop-j.j - 1))) (c.spot-p.ensures ∙ spot_is _ _))) merged
 
 pub returns : goal.returns
 returns c =
     let l = c.loop-j in
-    let a = c.args in
-    (c.min.ensures, merge_done a.anchor a.cells.now a.run.now a.m a.cap a.k c.requires.0 c.requires.1 c.requires.2 c.requires.3 c.requires.4 l.i l.j l.cells l.invariant (omega (arith, c.loop-j-test.false)))
+    let a = c.args in (
+      c.min.ensures,
+      merge_done a.anchor a.cells.now a.run.now a.m a.cap a.k c.requires.0 c.requires.1 c.requires.2 c.requires.3 c.requires.4 l.i l.j
+          l.cells l.invariant (omega (arith, c.loop-j-test.false)),
+    )

@@ -5,7 +5,7 @@ use lib.Ieee.{nan}
 use Rattle.laws.specs.Bounded.{lead_le, lead_before, lead_behind}
 use Rattle.laws.specs.Orders.{is_lt}
 use Rattle.lattice.specs.Escape.{point}
-use Rattle.lattice.specs.Flat.{points, length_points, points_at}
+use Rattle.lattice.specs.Flat.{points, spot_is, length_points, points_at}
 use Rattle.lattice.specs.Keys.{linear_by}
 use Rattle.lattice.specs.Lattice.{by_anchor}
 use Rattle.lattice.proofs.nearest.place.Goals as goal
@@ -24,7 +24,7 @@ loop-low-preserved-then-precedes c =
     let d = point nan nan in
     let n : mid < length ps = omega (arith, length_points a.m a.cells.now c.requires.0) in
     let e : is_lt (by_anchor a.anchor a.p (get_or ps mid d)) ≡ true =
-    rw (points_at a.m a.cells.now mid d (omega arith) c.requires.0, ← c.cell.ensures, ← c.precedes.ensures) c.if-precedes.true in
+    rw (points_at a.m a.cells.now mid d (omega arith) c.requires.0, ← spot_is a.cells.now mid, ← c.spot.ensures, ← c.precedes.ensures) c.if-precedes.true in
     (l.invariant.0, lead_before (by_anchor a.anchor) a.p ps mid d n e, omega arith)
 
 pub loop-low-preserved : goal.loop-low-preserved
@@ -36,5 +36,5 @@ loop-low-preserved c =
     let d = point nan nan in
     let n : mid < length ps = omega (arith, length_points a.m a.cells.now c.requires.0) in
     let e : is_lt (by_anchor a.anchor a.p (get_or ps mid d)) ≡ false =
-    rw (points_at a.m a.cells.now mid d (omega arith) c.requires.0, ← c.cell.ensures, ← c.precedes.ensures) c.if-precedes.false in
+    rw (points_at a.m a.cells.now mid d (omega arith) c.requires.0, ← spot_is a.cells.now mid, ← c.spot.ensures, ← c.precedes.ensures) c.if-precedes.false in
     (omega (arith, lead_behind (by_anchor a.anchor) (linear_by a.anchor) a.p ps mid d c.requires.1 n e), l.invariant.1, l.invariant.2)

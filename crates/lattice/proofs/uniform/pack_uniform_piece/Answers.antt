@@ -3,7 +3,6 @@
 use Rattle.std.proofs.Common.{◌≡◌, List, length, sym, ap, ◌∙◌, rules, None}
 use Rattle.laws.specs.Lists.{written}
 use Rattle.glyphs.specs.declared.rect.Point.{Point}
-use Rattle.glyphs.specs.Rect.{rectangles}
 use Rattle.regions.specs.Pieces.{rings_of}
 use Rattle.lattice.specs.Around.{around_is, no_spots}
 use Rattle.glyphs.specs.Spots.{flat}
@@ -14,7 +13,7 @@ unfolding written flat
 returns-in_default c =
     let a = c.args in
     let none : c.piece_bounds.result ≡ None = search rules in
-    let e = sym (no_spots a.poi (rings_of a.piece) a.n a.ctx (rectangles a.obstacles.now) a.rectangular (sym c.piece_bounds.ensures ∙ none) c.requires.0) in
+    let e = sym (no_spots a.poi (rings_of a.piece) a.n a.ctx a.obstacles.now a.rectangular (sym c.piece_bounds.ensures ∙ none) c.requires.0) in
     (ap length e, ap (λ (ps : List Point). written (flat ps) a.spots.now) e)
 
 pub returns : goal.returns
@@ -22,6 +21,6 @@ returns c =
     let a = c.args in
     let s = c.site_of-site.ensures in
     let e =
-    around_is a.poi (rings_of a.piece) a.n a.ctx (rectangles a.obstacles.now) a.rectangular _
+    around_is a.poi (rings_of a.piece) a.n a.ctx a.obstacles.now a.rectangular _
     (sym c.piece_bounds.ensures ∙ c.in-Some.is) _ _ _ _ s.rings s.least s.near c.field_at-field.ensures c.requires.1 in
     (c.pack_field.ensures.0 ∙ ap length e, c.pack_field.ensures.1 ∙ ap (λ (ps : List Point). written (flat ps) a.spots.now) e)

@@ -12,5 +12,6 @@ returns-then-t-lt32 c =
 pub returns : goal.returns
 returns c =
     let a = c.args in
-    let f = flushed a.anchor a.nf a.t a.free.now a.run.now c.requires (omega arith) c.merge_run-m.result c.merge_run-m.new.cells c.merge_run-m.ensures.0 c.merge_run-m.ensures.1 in
+    let f = flushed a.anchor a.nf a.t a.free.now a.run.now c.requires (omega arith) c.merge_run-m.result c.merge_run-m.new.cells
+    c.merge_run-m.ensures.0 c.merge_run-m.ensures.1 in
     (omega arith, f.0, f.1, f.2)

@@ -11,7 +11,8 @@ pub returns : goal.returns
 returns c =
     let a = c.args in
     let flushed = c.flush_full-u.ensures in
-    let more = one_more a.anchor a.nf c.flush_full-u.result c.flush_full-u.new.free a.run.now flushed.1 (omega arith) a.p flushed.0 c.keep-n.result c.keep-n.new.cells c.keep-n.ensures.0 c.keep-n.ensures.1 in (
+    let more = one_more a.anchor a.nf c.flush_full-u.result c.flush_full-u.new.free a.run.now flushed.1 (omega arith) a.p flushed.0 c.keep-n.result
+    c.keep-n.new.cells c.keep-n.ensures.0 c.keep-n.ensures.1 in (
       more.0,
       more.1 ∙ ap (λ (l : List Point). take a.nf (insert_behind (by_anchor a.anchor) a.p l)) flushed.2,
       record { grown = flushed.3.grown; as_long = flushed.3.as_long; free_is = flushed.3.free_is },

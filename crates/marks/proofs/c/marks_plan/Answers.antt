@@ -21,4 +21,11 @@ returns-in-Ok c =
 pub returns-in-Err : goal.returns-in-Err
 returns-in-Err c =
     let p = c.in-Err.ensures in
-    record { length = rw (← p.answer); answer = rw (← p.answer, c.from.ensures); first = p.first; second = p.second; sheet = p.sheet; kept = rw (← p.answer) p.kept }
+    record {
+      length = rw (← p.answer);
+      answer = rw (← p.answer, c.from.ensures);
+      first = p.first;
+      second = p.second;
+      sheet = p.sheet;
+      kept = rw (← p.answer) p.kept;
+    }

@@ -14,4 +14,5 @@ pub returns-clause-kept : goal.returns-clause-kept
 returns-clause-kept c =
     let a = c.args in
     let p = c.plan.ensures in
-    kept_is c.plan.result (plan_of a.job.now a.first.now a.second.now a.sheet.now) a.job.now c.plan.new.sheet p.answer (λ e. rw p.lent.2 (every_sheet_kept a.job.now a.first.now a.second.now a.sheet.now e))
+    kept_is c.plan.result (plan_of a.job.now a.first.now a.second.now a.sheet.now) a.job.now c.plan.new.sheet p.answer
+    (λ e. rw p.sheet (every_sheet_kept a.job.now a.first.now a.second.now a.sheet.now e))

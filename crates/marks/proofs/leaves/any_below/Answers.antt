@@ -16,4 +16,5 @@ same test (x ∷ xs) = ap (λ (b : Bool). test x || b) (same test xs)
 pub returns : goal.returns
 returns c =
     let xs = c.args.weights.now in
-    any_from_yields_List (λ (w : Float). w <ᶠ 0ᶠ) _ _ _ c.any.ensures.ran (YieldsList-from_slice xs cc) (λ x b q k. search (rules, tests)) ∙ same (λ (w : Float). w <ᶠ 0ᶠ) xs
+    any_from_yields_List (λ (w : Float). w <ᶠ 0ᶠ) _ _ _ c.any.ensures.ran (YieldsList-from_slice xs cc) (λ x b q k. search (rules, tests))
+    ∙ same (λ (w : Float). w <ᶠ 0ᶠ) xs

@@ -12,10 +12,13 @@ use Rattle.marks.specs.Leaves.{any_below, quotas_answer, quotas_after}
 use Rattle.marks.specs.declared.leaves.Refusal.{Refusal}
 use Rattle.marks.specs.declared.leaves.Refusal.TheVariants.{Shares, Places}
 use Rattle.marks.proofs.leaves.quotas.Goals as goal
-use Rattle.marks.proofs.leaves.quotas.Goals.{then-too_many-via-then-too_many, then-too_many-via-else-too_many+then-weights-gt16, then-too_many-via-else-too_many+else-weights-gt16+then-any_below}
+use Rattle.marks.proofs.leaves.quotas.Goals.{then-too_many-via-then-too_many, then-too_many-via-else-too_many+then-weights-gt16}
+use Rattle.marks.proofs.leaves.quotas.Goals.{then-too_many-via-else-too_many+else-weights-gt16+then-any_below}
 
 -- refused, the places stay as they are
-kept : (count : ℕ) (weights : List Float) (places : List ℕ) (refusal : Refusal) → quotas_answer count weights (length places) ≡ Err refusal → places ≡ quotas_after count weights places
+kept :
+    (count : ℕ) (weights : List Float) (places : List ℕ) (refusal : Refusal) → quotas_answer count weights (length places) ≡ Err refusal
+    → places ≡ quotas_after count weights places
 unfolding quotas_after
 kept count weights places refusal e = rw e
 
@@ -60,4 +63,10 @@ returns-clause-answer c =
 pub returns-clause-lent : goal.returns-clause-lent
 unfolding quotas_answer quotas_after
 returns-clause-lent c =
-    rw (le-ltb _ _ c.if-too_many.false, le-ltb _ _ c.if-weights-gt16.false, ← c.any_below.ensures, c.if-any_below.false, le-ltb _ _ c.if-quotas-weights.false) c.apportion.ensures
+    rw (
+      le-ltb _ _ c.if-too_many.false,
+      le-ltb _ _ c.if-weights-gt16.false,
+      ← c.any_below.ensures,
+      c.if-any_below.false,
+      le-ltb _ _ c.if-quotas-weights.false,
+    ) c.apportion.ensures

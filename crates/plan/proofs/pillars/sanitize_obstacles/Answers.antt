@@ -1,45 +1,36 @@
--- `sanitize_obstacles` meets its contract. The invariant: the sane ones are those written and those of what is left.
--- Rests on the laws of obstacles written one after another.
-use Prim.Native.Nat.{◌-◌, ◌/◌, ◌+◌}
-use mathlib.Core.Path.{refl, sym, ap, ◌∙◌}
-use mathlib.Core.List.{List, ◌++◌}
-use native.Mathlib.Nat.{sub-zero}
-use native.Mathlib.Omega.{arith}
-use borrow.Author.Rules.{rules}
-use lib.ListN.{length}
-use Rattle.glyphs.specs.declared.rect.Rectangle.{Rectangle}
-use Rattle.glyphs.specs.Rect.{rects_from, rectangles, filter, sane, sanitize_obstacles}
-use Rattle.lattice.specs.Near.{rects_front, filter_step, filter_end}
+-- `sanitize_obstacles` meets its contract. The invariant: the sane ones are those put and those of what is left.
+-- Rests on the law of a list filtered in turn.
+use Rattle.std.proofs.Common.{refl, sym, ◌∙◌, arith, length-append}
+use Rattle.glyphs.specs.Rect.{sane, sanitize_obstacles}
+use Rattle.lattice.specs.Near.{filter_kept, filter_left, filter_none}
 use Rattle.plan.proofs.pillars.sanitize_obstacles.Goals as goal
+use Rattle.plan.proofs.pillars.sanitize_obstacles.Goals.{then-is_sane, else-is_sane}
 
-pub loop-k-init : goal.loop-k-init
-unfolding sanitize_obstacles rectangles rects_from
-loop-k-init c = (search rules, search rules, search rules, refl, simp sub-zero)
+pub loop-rect-init : goal.loop-rect-init
+unfolding sanitize_obstacles
+loop-rect-init g c = (omega arith, refl)
 
-pub keep_sane-m-requires : goal.keep_sane-m-requires
-keep_sane-m-requires c = omega arith
+pub push-requires : goal.push-requires
+push-requires g c = omega (arith, c.requires, c.loop-rect.invariant.0, c.loop-rect-test.true)
 
-pub loop-k-preserved : goal.loop-k-preserved
-loop-k-preserved c =
-    let kept = c.keep_sane-m.ensures in
-    let l = c.loop-k in
-    let a = c.args in
-    let n = length a.obstacles.now / 4 in
-    let rect = c.obstacle-rect.result in (
-      search rules,
-      search rules,
-      omega (arith, kept.0),
-      search rules,
-      l.invariant.4
-          ∙ filter_step sane a.obstacles.now l.k n (rects_from l.out 0 l.m) rect (sane rect) c.loop-k-test.true c.obstacle-rect.ensures refl
-          ∙ ap (λ (xs : List Rectangle). xs ++ filter sane (rects_from a.obstacles.now (l.k + 1) (n - (l.k + 1)))) (sym kept.1),
-    )
+pub loop-rect-preserved : goal.loop-rect-preserved
+loop-rect-preserved g c =
+    let l = c.loop-rect in
+    let a = c.args.obstacles.now in
+    elim c.if-is_sane.branch [
+      | then-is_sane w ↦
+          rw (w.out-is, w.push.ensures.items) (
+            simp length-append (omega (arith, l.invariant.0)),
+            sym (filter_kept sane a l.rect-index l.out.items _ c.loop-rect-test.true (sym c.is_sane.ensures ∙ w.if-is_sane.true)) ∙ l.invariant.1,
+          )
+      | else-is_sane w ↦
+          rw w.out-is (
+            omega (arith, l.invariant.0),
+            sym (filter_left sane a l.rect-index l.out.items _ c.loop-rect-test.true (sym c.is_sane.ensures ∙ w.if-is_sane.false)) ∙ l.invariant.1,
+          )
+    ]
 
 pub returns : goal.returns
-returns c =
-    let l = c.loop-k in
-    let a = c.args in (
-      omega arith,
-      omega arith,
-      rects_front l.out l.m (omega arith) ∙ sym (l.invariant.4 ∙ filter_end sane a.obstacles.now l.k (length a.obstacles.now / 4) (rects_from l.out 0 l.m) c.loop-k-test.false),
-    )
+returns g c =
+    let l = c.loop-rect in
+    sym (filter_none sane c.args.obstacles.now l.rect-index l.out.items c.loop-rect-test.false) ∙ l.invariant.1

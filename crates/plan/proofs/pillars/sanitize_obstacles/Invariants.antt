@@ -1,19 +1,10 @@
--- `sanitize_obstacles` meets its contract. The invariant: the sane ones are those written and those of what is left.
--- Rests on the laws of obstacles written one after another.
-use Prim.Native.Nat.{◌≤◌, ◌-◌, ◌/◌}
-use mathlib.Core.Path.{◌≡◌}
-use mathlib.Core.List.{◌++◌}
-use lib.ListN.{length}
-use Rattle.glyphs.specs.Rect.{rects_from, rectangles, filter, sane, sanitize_obstacles}
+-- `sanitize_obstacles` meets its contract. The invariant: the sane ones are those put and those of what is left.
+-- Rests on the law of a list filtered in turn.
+use Rattle.std.specs.Prelude.{◌≡◌, ◌+◌, ◌≤◌, ◌++◌, length, drop}
+use Rattle.glyphs.specs.Rect.{filter, sane, sanitize_obstacles}
 use Rattle.plan.proofs.pillars.sanitize_obstacles.Given as goal
 
-abbrev pub invariant-loop-k : goal.invariant-loop-k
-invariant-loop-k l =
-    (l.k ≤ l.n)
-    × (l.n ≡ length l.obstacles / 4)
-    × (l.m ≤ l.k)
-    × (length l.out ≡ length l.initial.out)
-    × (sanitize_obstacles (rectangles l.obstacles) ≡ rects_from l.out 0 l.m ++ filter sane (rects_from l.obstacles l.k (l.n - l.k)))
-
-abbrev pub decreases-loop-k : goal.decreases-loop-k
-decreases-loop-k l = l.n - l.k
+abbrev pub invariant-loop-rect : goal.invariant-loop-rect
+invariant-loop-rect g l =
+    (length l.out.items ≤ length l.initial.out.items + l.rect-index)
+    × (l.out.items ++ filter sane (drop l.rect-index l.obstacles) ≡ l.initial.out.items ++ sanitize_obstacles l.obstacles)

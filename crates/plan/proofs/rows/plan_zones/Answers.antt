@@ -1,56 +1,53 @@
 -- `plan_zones` answers a job that was read in: rows 15 and 16, and the sheet.
 -- Rests on what its calls ensure, and on these being the definition's over the job's zones.
-use mathlib.Core.Path.{refl, sym}
+use mathlib.Core.Path.{refl, ◌∙◌}
 use native.Mathlib.Omega.{arith}
 use borrow.Author.Rules.{rules}
-use lib.Seq.{length-take-le}
-use Rattle.plan.specs.Zoned.{shares_long, pillars_lend}
-use Rattle.plan.proofs.Zoned.{rows_readable, refused_search, zones_floor, zones_fair, planned_zones}
+use Rattle.plan.proofs.Zoned.{refused_search, zones_floor, zones_fair, planned_zones}
 use Rattle.plan.proofs.rows.plan_zones.Goals as goal
-
-pub share_zones-requires : goal.share_zones-requires
-share_zones-requires c =
-    let a = c.args in
-    let p = c.requires in
-    (rows_readable a.s.now a.options a.obstacles.now a.rows.now a.rings.now a.sizes.now a.coords.now p.0, omega (arith, p.2, p.3))
-
-pub search_zones-requires : goal.search_zones-requires
-search_zones-requires c =
-    let a = c.args in
-    let p = c.requires in
-    let long = shares_long a.rows.now a.rings.now a.sizes.now a.coords.now a.quotas.now _ c.share_zones.ensures in
-    (rows_readable a.s.now a.options a.obstacles.now a.rows.now a.rings.now a.sizes.now a.coords.now p.0, omega (arith, p.2, p.3, long), p.8, omega (arith, p.2, p.4))
 
 pub returns-then-not-search_zones : goal.returns-then-not-search_zones
 returns-then-not-search_zones c =
-    let a = c.args in
+    let j = c.args.job in
+    let n = j.layout in
     let p = c.requires in
-    refused_search a.s.now a.options a.obstacles.now a.rows.now a.rings.now a.sizes.now a.coords.now p.0 a.quotas.now _ (omega (arith, p.2, p.3)) c.share_zones.ensures a.deepest.now _ (omega (arith, p.2, p.4)) _ c.search_zones.ensures (c.if-not-search_zones.true) _ refl _
+    refused_search j.bytes.now j.options j.obstacles.now n.rows.now n.rings.now n.sizes.now n.coords.now p.read
+    _ _ (omega (arith, p.pieces)) c.share_zones.ensures _ _ (omega (arith, p.pieces)) _ c.search_zones.ensures c.if-not-search_zones.true _ refl _
 
-pub slice_bounds-plan_pieces-end-2 : goal.slice_bounds-plan_pieces-end-2
-slice_bounds-plan_pieces-end-2 c = sym (length-take-le _ _ c.sanitize_obstacles-m.ensures.1)
+pub invariant_of-zones : goal.invariant_of-zones
+invariant_of-zones c =
+    let j = c.args.job in
+    let n = j.layout in
+    let p = c.requires in
+    record {
+      floor =
+          zones_floor j.bytes.now j.options j.obstacles.now n.rows.now n.rings.now n.sizes.now n.coords.now p.read
+          _ _ (omega (arith, p.pieces)) c.share_zones.ensures _ _ (omega (arith, p.pieces)) _ c.search_zones.ensures c.if-not-search_zones.false;
+    }
+
+pub lend-work-requires : goal.lend-work-requires
+lend-work-requires c = record { second = omega (arith, c.requires.second); flags = omega arith; spots = search rules }
 
 pub plan_pieces-requires : goal.plan_pieces-requires
 plan_pieces-requires c =
-    let a = c.args in
+    let j = c.args.job in
+    let n = j.layout in
     let p = c.requires in
-    let kept = c.sanitize_obstacles-m.ensures in
-    let roomy = c.if-not-search_zones.false in
-    let first = p.8 in (
-      zones_floor a.s.now a.options a.obstacles.now a.rows.now a.rings.now a.sizes.now a.coords.now p.0 a.quotas.now _ (omega (arith, p.2, p.3)) c.share_zones.ensures a.deepest.now _ (omega (arith, p.2, p.4)) _ c.search_zones.ensures roomy,
-      pillars_lend _ a.obstacles.now _ _ _ _ _ kept.0 kept.1 p.5 p.7 p.9 p.10 (search rules),
-      zones_fair a.s.now a.options a.obstacles.now a.rows.now a.rings.now a.sizes.now a.coords.now p.0 a.quotas.now _ (omega (arith, p.2, p.3)) c.share_zones.ensures a.deepest.now _ (omega (arith, p.2, p.4)) _ c.search_zones.ensures roomy _,
-      p.11,
-      p.1,
-    )
-
-pub shape_of-quotas : goal.shape_of-quotas
-shape_of-quotas c =
-    let a = c.args in
-    shares_long a.rows.now a.rings.now a.sizes.now a.coords.now a.quotas.now _ c.share_zones.ensures
+    record {
+      near = search rules;
+      fair = λ size.
+          zones_fair j.bytes.now j.options j.obstacles.now n.rows.now n.rings.now n.sizes.now n.coords.now p.read
+          _ _ (omega (arith, p.pieces)) c.share_zones.ensures _ _ (omega (arith, p.pieces)) _ c.search_zones.ensures c.if-not-search_zones.false _ _ size;
+      room = p.room;
+      few = p.zones;
+    }
 
 pub returns : goal.returns
 returns c =
-    let a = c.args in
+    let j = c.args.job in
+    let n = j.layout in
     let p = c.requires in
-    planned_zones a.s.now a.options a.obstacles.now a.rows.now a.rings.now a.sizes.now a.coords.now p.0 a.quotas.now _ (omega (arith, p.2, p.3)) c.share_zones.ensures a.deepest.now _ (omega (arith, p.2, p.4)) _ c.search_zones.ensures (c.if-not-search_zones.false) _ c.sanitize_obstacles-m.ensures.2 _ _ _ c.plan_pieces.ensures
+    let kept = c.as_slice.ensures.value ∙ c.sanitize_obstacles.ensures ∙ rw c.clear.ensures in
+    planned_zones j.bytes.now j.options j.obstacles.now n.rows.now n.rings.now n.sizes.now n.coords.now p.read
+    _ _ (omega (arith, p.pieces)) c.share_zones.ensures _ _ (omega (arith, p.pieces)) _ c.search_zones.ensures c.if-not-search_zones.false
+    _ kept _ _ _ c.plan_pieces.ensures.planned

@@ -17,7 +17,7 @@ loop-k-init c =
     let n = length_pieces c.args.pieces.rings.now c.args.pieces.sizes.now c.args.pieces.coords.now in
     let pieces = c.zip.ensures.first in
     let quotas = c.zip.ensures.second.0 in (
-      c.requires.0,
+      c.requires.cells,
       refl,
       rw (e, z.first, n) refl,
       rw (e, z.first, z.second, pieces) refl,
@@ -30,7 +30,7 @@ offset_bounds-deepest-k c =
     let s = c.in-Some.ensures.steps in
     let i = c.loop-k.invariant in
     let n = length_pieces c.args.pieces.rings.now c.args.pieces.sizes.now c.args.pieces.coords.now in
-    let fits : c.in-Some.k < length c.loop-k.deepest = omega (arith, s.0, i.1, i.2, n, c.requires.1) in
+    let fits : c.in-Some.k < length c.loop-k.deepest = omega (arith, s.0, i.1, i.2, n, c.requires.room) in
     search rules
 
 pub search_piece-found-requires : goal.search_piece-found-requires
@@ -51,7 +51,7 @@ bounds-deepest-k c =
     let s = c.in-Some.ensures.steps in
     let i = c.loop-k.invariant in
     let n = length_pieces c.args.pieces.rings.now c.args.pieces.sizes.now c.args.pieces.coords.now in
-    omega (arith, s.0, i.1, i.2, n, c.requires.1)
+    omega (arith, s.0, i.1, i.2, n, c.requires.room)
 
 pub loop-k-preserved : goal.loop-k-preserved
 loop-k-preserved c =

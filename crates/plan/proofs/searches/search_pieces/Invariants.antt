@@ -21,4 +21,5 @@ invariant-loop-k l =
     × (all had_room (found_in l.options l.left_in (pieces_left l.pieces) l.quotas)
     ≡ all had_room (found_in l.options l.left_in (pieces_left (zip_first (zip_second l.k-iterator))) (iter_rest (zip_second (zip_second l.k-iterator)))))
     × (sets l.initial.deepest l.start (found_in l.options l.left_in (pieces_left l.pieces) l.quotas)
-    ≡ sets l.deepest (zip_first l.k-iterator).start (found_in l.options l.left_in (pieces_left (zip_first (zip_second l.k-iterator))) (iter_rest (zip_second (zip_second l.k-iterator)))))
+    ≡ sets l.deepest (zip_first l.k-iterator).start
+    (found_in l.options l.left_in (pieces_left (zip_first (zip_second l.k-iterator))) (iter_rest (zip_second (zip_second l.k-iterator)))))

@@ -1,20 +1,21 @@
 -- `search_zone` finds the deepest points of the zone that a row names.
 -- Rests on what `search_pieces` ensures and on the parts of slices that are lent.
 use native.Mathlib.Omega.{arith}
-use Rattle.plan.specs.Rows.{found_at, fits_at, cut_is, length_cut}
+use Rattle.plan.specs.Rows.{found_at, length_cut}
 use Rattle.plan.proofs.searches.search_zone.Goals as goal
 
-pub pieces_at-requires : goal.pieces_at-requires
-pieces_at-requires c = let r = c.requires.0 in (r.ringed, r.sized, r.within, r.laid)
+pub part-requires : goal.part-requires
+part-requires c = omega (arith, c.requires.zone.ringed, c.requires.quotas)
 
 pub search_pieces-requires : goal.search_pieces-requires
 search_pieces-requires c =
     let a = c.args in
-    let r = c.requires.0 in
-    (c.requires.2, rw (c.pieces_at.ensures.rings, length_cut a.at.piece a.row.pieces a.rings.now r.ringed) (omega (arith, r.ringed, c.requires.3)))
+    let r = c.requires.zone in
+    record {
+      cells = c.requires.cells;
+      room = rw (c.pieces.ensures.rings, length_cut a.at.piece a.row.pieces a.layout.rings.now r.ringed) (omega (arith, r.ringed, c.requires.room));
+    }
 
 pub returns : goal.returns
-unfolding fits_at found_at
-returns c =
-    let a = c.args in
-    rw (c.pieces_at.ensures.pieces, cut_is a.at.piece a.row.pieces a.quotas.now, c.is_left_in.ensures) at c.search_pieces.ensures
+unfolding found_at
+returns c = rw (c.pieces.ensures.pieces, c.part.ensures, c.is_left_in.ensures) at c.search_pieces.ensures

@@ -3,15 +3,19 @@
 use mathlib.Core.Path.{◌≡◌}
 use lib.ListN.{length, drop}
 use lib.Seq.{sets}
-use Rattle.discs.specs.Floor.{EachRow, start}
-use Rattle.plan.specs.Rows.{Readable, flat_rows, all_rows, fits_at, found_at}
+use Rattle.discs.specs.Floor.{EachRow}
+use Rattle.plan.specs.Rows.{Readable, flat_rows, all_rows}
+use Rattle.plan.specs.Bundled.{zone_fits, zone_found, all_fit, all_found}
 use Rattle.plan.proofs.searches.search_zones.Given as goal
 
 abbrev pub invariant-loop-row : goal.invariant-loop-row
 invariant-loop-row l =
+    let rings = l.layout.rings.now in
+    let sizes = l.layout.sizes.now in
+    let left = drop l.row-index l.layout.rows.now in
     (length l.cells ≡ 8000)
     × (length l.deepest ≡ length l.initial.deepest)
-    × EachRow l.rings l.sizes (Readable l.rings l.sizes l.coords) (drop l.row-index l.rows) l.at
-    × (all_rows l.rings l.sizes (fits_at l.rings l.sizes l.coords l.options l.quotas) l.rows start ≡ all_rows l.rings l.sizes (fits_at l.rings l.sizes l.coords l.options l.quotas) (drop l.row-index l.rows) l.at)
-    × (sets l.initial.deepest 0 (flat_rows l.rings l.sizes (found_at l.rings l.sizes l.coords l.options l.quotas) l.rows start)
-    ≡ sets l.deepest l.at.piece (flat_rows l.rings l.sizes (found_at l.rings l.sizes l.coords l.options l.quotas) (drop l.row-index l.rows) l.at))
+    × EachRow rings sizes (Readable rings sizes l.layout.coords.now) left l.at
+    × (all_fit l.layout l.options l.quotas ≡ all_rows rings sizes (zone_fits l.layout l.options l.quotas) left l.at)
+    × (sets l.initial.deepest 0 (all_found l.layout l.options l.quotas)
+    ≡ sets l.deepest l.at.piece (flat_rows rings sizes (zone_found l.layout l.options l.quotas) left l.at))

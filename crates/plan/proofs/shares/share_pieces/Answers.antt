@@ -3,26 +3,38 @@
 use mathlib.Core.Path.{sym, ap, ◌∙◌}
 use native.Mathlib.Omega.{arith}
 use lib.ListN.{length}
-use Rattle.discs.specs.Region.{areas}
-use Rattle.discs.specs.Pieces.{pieces_of}
-use Rattle.plan.specs.Shares.{length_areas, length_apportion, areas_front, shares_front}
+use Rattle.plan.specs.Shares.{length_areas, length_shared, areas_front, shares_front}
 use Rattle.plan.proofs.shares.share_pieces.Goals as goal
 
 pub slice_bounds-apportion-end : goal.slice_bounds-apportion-end
-slice_bounds-apportion-end c = sym (ap length (areas_front c.args.pieces.rings.now c.args.pieces.sizes.now c.args.pieces.coords.now _ _ c.requires.0 c.put_areas.ensures) ∙ length_areas c.args.pieces.rings.now c.args.pieces.sizes.now c.args.pieces.coords.now)
+slice_bounds-apportion-end c =
+    let p = c.args.pieces in
+    let front = areas_front p.rings.now p.sizes.now p.coords.now _ _ c.requires.few c.put_areas.ensures in
+    sym (ap length front ∙ length_areas p.rings.now p.sizes.now p.coords.now)
 
 pub apportion-requires : goal.apportion-requires
 apportion-requires c =
-    let e = ap length (areas_front c.args.pieces.rings.now c.args.pieces.sizes.now c.args.pieces.coords.now _ _ c.requires.0 c.put_areas.ensures) ∙ length_areas c.args.pieces.rings.now c.args.pieces.sizes.now c.args.pieces.coords.now in
-    record { exact = omega (arith, c.requires.2); room = rw e c.requires.0 }
+    let p = c.args.pieces in
+    let front = areas_front p.rings.now p.sizes.now p.coords.now _ _ c.requires.few c.put_areas.ensures in
+    let long = ap length front ∙ length_areas p.rings.now p.sizes.now p.coords.now in
+    record { exact = omega (arith, c.requires.marks); room = rw long c.requires.few }
 
 pub slice_bounds-put_shares-end : goal.slice_bounds-put_shares-end
-slice_bounds-put_shares-end c = sym (ap length (shares_front c.args.pieces.rings.now c.args.pieces.sizes.now c.args.pieces.coords.now c.args.count _ _ _ (areas_front c.args.pieces.rings.now c.args.pieces.sizes.now c.args.pieces.coords.now _ _ c.requires.0 c.put_areas.ensures) c.apportion.ensures) ∙ length_apportion c.args.count (areas (pieces_of c.args.pieces.rings.now c.args.pieces.sizes.now c.args.pieces.coords.now)) ∙ length_areas c.args.pieces.rings.now c.args.pieces.sizes.now c.args.pieces.coords.now)
+slice_bounds-put_shares-end c =
+    let p = c.args.pieces in
+    let front = areas_front p.rings.now p.sizes.now p.coords.now _ _ c.requires.few c.put_areas.ensures in
+    let shared = shares_front p.rings.now p.sizes.now p.coords.now c.args.count _ _ _ front c.apportion.ensures in
+    sym (ap length shared ∙ length_shared p.rings.now p.sizes.now p.coords.now c.args.count)
 
 pub put_shares-requires : goal.put_shares-requires
 put_shares-requires c =
-    let e = ap length (shares_front c.args.pieces.rings.now c.args.pieces.sizes.now c.args.pieces.coords.now c.args.count _ _ _ (areas_front c.args.pieces.rings.now c.args.pieces.sizes.now c.args.pieces.coords.now _ _ c.requires.0 c.put_areas.ensures) c.apportion.ensures) ∙ length_apportion c.args.count (areas (pieces_of c.args.pieces.rings.now c.args.pieces.sizes.now c.args.pieces.coords.now)) ∙ length_areas c.args.pieces.rings.now c.args.pieces.sizes.now c.args.pieces.coords.now in
-    rw e c.requires.1
+    let p = c.args.pieces in
+    let front = areas_front p.rings.now p.sizes.now p.coords.now _ _ c.requires.few c.put_areas.ensures in
+    let shared = shares_front p.rings.now p.sizes.now p.coords.now c.args.count _ _ _ front c.apportion.ensures in
+    c.requires.room ∙ sym (ap length shared ∙ length_shared p.rings.now p.sizes.now p.coords.now c.args.count)
 
 pub returns : goal.returns
-returns c = c.put_shares.ensures ∙ rw (shares_front c.args.pieces.rings.now c.args.pieces.sizes.now c.args.pieces.coords.now c.args.count _ _ _ (areas_front c.args.pieces.rings.now c.args.pieces.sizes.now c.args.pieces.coords.now _ _ c.requires.0 c.put_areas.ensures) c.apportion.ensures)
+returns c =
+    let p = c.args.pieces in
+    let front = areas_front p.rings.now p.sizes.now p.coords.now _ _ c.requires.few c.put_areas.ensures in
+    c.put_shares.ensures ∙ shares_front p.rings.now p.sizes.now p.coords.now c.args.count _ _ _ front c.apportion.ensures

@@ -1,19 +1,37 @@
 -- `share_zone` writes the quotas of the zone that a row names.
 -- Rests on what `share_pieces` ensures and on the parts of slices that are lent.
-use mathlib.Core.Path.{◌∙◌}
+use mathlib.Core.Path.{◌≡◌, ◌∙◌}
 use native.Mathlib.Omega.{arith}
-use Rattle.plan.specs.Rows.{shares_at, length_cut}
+use lib.ListN.{length}
+use Rattle.plan.specs.Rows.{shares_at, cut_is, length_cut, part_put, length_shares}
 use Rattle.plan.proofs.shares.share_zone.Goals as goal
 
-pub pieces_at-pieces-requires : goal.pieces_at-pieces-requires
-pieces_at-pieces-requires c = let r = c.requires.0 in (r.ringed, r.sized, r.within, r.laid)
+pub overflow_add-q : goal.overflow_add-q
+overflow_add-q c = omega (arith, c.requires.zone.ringed, c.requires.room)
+
+pub slice_bounds-share_pieces-end : goal.slice_bounds-share_pieces-end
+slice_bounds-share_pieces-end c = omega (arith, c.requires.zone.ringed, c.requires.room)
 
 pub share_pieces-requires : goal.share_pieces-requires
 share_pieces-requires c =
     let a = c.args in
-    let r = c.requires.0 in
-    rw (c.pieces_at-pieces.ensures.rings, length_cut a.at.piece a.row.pieces a.rings.now r.ringed) (r.few, omega (arith, r.ringed, c.requires.1), r.marks)
+    let r = c.requires.zone in
+    let rings : length c.pieces.result.rings.now ≡ a.row.pieces =
+    rw c.pieces.ensures.rings (length_cut a.at.piece a.row.pieces a.layout.rings.now r.ringed) in
+    record {
+      few = rw rings r.few;
+      room =
+          rw (cut_is a.at.piece a.row.pieces a.quotas.now, rings)
+          (length_cut a.at.piece a.row.pieces a.quotas.now (omega (arith, r.ringed, c.requires.room)));
+      marks = r.marks;
+    }
 
 pub returns : goal.returns
 unfolding shares_at
-returns c = c.share_pieces.ensures ∙ rw c.pieces_at-pieces.ensures.pieces
+returns c =
+    let a = c.args in
+    let r = c.requires.zone in
+    let shares : c.share_pieces.new.quotas ≡ shares_at a.layout.rings.now a.layout.sizes.now a.layout.coords.now a.row a.at =
+    c.share_pieces.ensures ∙ rw c.pieces.ensures.pieces in
+    let long = length_shares a.layout.rings.now a.layout.sizes.now a.layout.coords.now a.row a.at r.ringed in
+    rw shares (part_put a.quotas.now _ a.at.piece a.row.pieces long (omega (arith, r.ringed, c.requires.room)))

@@ -3,13 +3,16 @@
 use mathlib.Core.Path.{◌≡◌}
 use lib.ListN.{length, drop}
 use lib.Seq.{sets}
-use Rattle.discs.specs.Floor.{EachRow, start}
-use Rattle.plan.specs.Rows.{Readable, flat_rows, shares_at}
+use Rattle.discs.specs.Floor.{EachRow}
+use Rattle.plan.specs.Rows.{Readable, flat_rows}
+use Rattle.plan.specs.Bundled.{zone_shares, all_shares}
 use Rattle.plan.proofs.shares.share_zones.Given as goal
 
 abbrev pub invariant-loop-row : goal.invariant-loop-row
 invariant-loop-row l =
+    let rings = l.layout.rings.now in
+    let sizes = l.layout.sizes.now in
+    let left = drop l.row-index l.layout.rows.now in
     (length l.quotas ≡ length l.initial.quotas)
-    × EachRow l.rings l.sizes (Readable l.rings l.sizes l.coords) (drop l.row-index l.rows) l.at
-    × (sets l.initial.quotas 0 (flat_rows l.rings l.sizes (shares_at l.rings l.sizes l.coords) l.rows start)
-    ≡ sets l.quotas l.at.piece (flat_rows l.rings l.sizes (shares_at l.rings l.sizes l.coords) (drop l.row-index l.rows) l.at))
+    × EachRow rings sizes (Readable rings sizes l.layout.coords.now) left l.at
+    × (sets l.initial.quotas 0 (all_shares l.layout) ≡ sets l.quotas l.at.piece (flat_rows rings sizes (zone_shares l.layout) left l.at))

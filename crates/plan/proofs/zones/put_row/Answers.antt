@@ -3,24 +3,39 @@
 use mathlib.Core.Path.{sym, ap, ◌∙◌}
 use mathlib.Core.List.{flatten}
 use native.Mathlib.Omega.{arith}
+use borrow.Author.Rules.{rules}
 use lib.ListN.{length}
 use Rattle.laws.specs.Lists.{length_written}
-use Rattle.glyphs.specs.Rect.{rectangles}
 use Rattle.glyphs.specs.Spots.{flat}
 use Rattle.discs.specs.Joined.{length_joined}
-use Rattle.plan.specs.Placing.{spots_at, Fair}
+use Rattle.discs.specs.Bundles.{work_same}
+use Rattle.plan.specs.Placing.{Fair}
+use Rattle.plan.specs.Bundled.{zone_spots}
 use Rattle.plan.specs.Bytes.{room_in, bytes_count, bytes_out, none_out, one_in, bytes_in}
 use Rattle.plan.proofs.zones.put_row.Goals as goal
 
 pub returns-then-not-is_left_in : goal.returns-then-not-is_left_in
 returns-then-not-is_left_in c =
     let a = c.args in
+    let p = a.setting.packing in
+    let n = a.zones in
     let e = sym c.is_left_in.ensures ∙ c.if-not-is_left_in.true in
-    (bytes_out a.sizing a.options (rectangles a.obstacles.now) a.zones.bytes.now a.zones.rings.now a.zones.sizes.now a.zones.coords.now a.zones.quotas.now a.zones.deepest.now a.row a.at a.done.at a.sheet.now e, omega (arith, none_out a.sizing a.options (rectangles a.obstacles.now) a.zones.bytes.now a.zones.rings.now a.zones.sizes.now a.zones.coords.now a.zones.quotas.now a.zones.deepest.now a.row a.at e), omega arith, omega arith)
+    let none =
+    none_out p.numbers a.setting.size p.options p.obstacles.now
+    n.bytes.now n.rings.now n.sizes.now n.coords.now n.quotas.now n.deepest.now a.row a.at e in
+    record {
+      put =
+          bytes_out p.numbers a.setting.size p.options p.obstacles.now
+          n.bytes.now n.rings.now n.sizes.now n.coords.now n.quotas.now n.deepest.now a.row a.at a.done.at a.sheet.now e;
+      counted = omega (arith, none);
+      room = omega arith;
+      one = omega arith;
+      same = work_same a.work.now;
+    }
 
 pub place_zone-placed-requires : goal.place_zone-placed-requires
 place_zone-placed-requires c =
-    (c.requires.0, c.requires.1, sym c.is_left_in.ensures ∙ c.if-not-is_left_in.false)
+    record { zone = c.requires.zone; near = c.requires.near; left_in = sym c.is_left_in.ensures ∙ c.if-not-is_left_in.false }
 
 pub put_placement-to-requires : goal.put_placement-to-requires
 unfolding Fair
@@ -29,24 +44,54 @@ put_placement-to-requires c =
     let p = c.requires in
     let e = sym c.is_left_in.ensures ∙ c.if-not-is_left_in.false in
     let z = c.place_zone-placed.ensures in
-    let all = spots_at a.sizing a.options (rectangles a.obstacles.now) a.zones.bytes.now a.zones.rings.now a.zones.sizes.now a.zones.coords.now a.zones.quotas.now a.zones.deepest.now a.row a.at in
-    let most = p.2 e in
-    let long = ap length z.1 ∙ length_written (flat (flatten all)) a.work.now.spots.now (omega (arith, length_joined all, most, p.0.stands.marks, a.work.now.room_spots)) in
-    (omega (arith, z.0, most, p.3, room_in a.row e), p.0.key, omega (arith, z.0, most), omega (arith, z.0, most, long, p.0.stands.marks, a.work.now.room_spots))
+    let all = zone_spots a.setting a.zones a.row a.at in
+    let most = p.fair e in
+    let room = a.work.now.room_spots in
+    let long =
+    ap length z.spots
+    ∙ length_written (flat (flatten all)) a.work.now.spots.now (omega (arith, length_joined all, most, p.zone.stands.marks, room)) in
+    record {
+      room = omega (arith, z.counted, most, p.room, room_in a.row e);
+      key = p.zone.key;
+      placed = omega (arith, z.counted, most);
+      spots = omega (arith, z.counted, most, long, p.zone.stands.marks, room);
+    }
 
 pub overflow_add-result : goal.overflow_add-result
-overflow_add-result c = record { fits = omega (arith, c.requires.4) }
+overflow_add-result c = record { fits = omega (arith, c.requires.zones) }
 
 pub returns : goal.returns
 unfolding Fair
 returns c =
     let a = c.args in
+    let n = a.zones in
+    let k = a.setting.packing in
     let p = c.requires in
     let e = sym c.is_left_in.ensures ∙ c.if-not-is_left_in.false in
     let z = c.place_zone-placed.ensures in
-    let all = spots_at a.sizing a.options (rectangles a.obstacles.now) a.zones.bytes.now a.zones.rings.now a.zones.sizes.now a.zones.coords.now a.zones.quotas.now a.zones.deepest.now a.row a.at in
-    let most = p.2 e in
-    let long = ap length z.1 ∙ length_written (flat (flatten all)) a.work.now.spots.now (omega (arith, length_joined all, most, p.0.stands.marks, a.work.now.room_spots)) in
-    let w = rw (bytes_in a.sizing a.options (rectangles a.obstacles.now) a.zones.bytes.now a.zones.rings.now a.zones.sizes.now a.zones.coords.now a.zones.quotas.now a.zones.deepest.now a.row a.at c.place_zone-placed.result a.work.now.spots.now _ e z.0 z.1) at c.put_placement-to.ensures in
-    let b = bytes_count a.sizing a.options (rectangles a.obstacles.now) a.zones.bytes.now a.zones.rings.now a.zones.sizes.now a.zones.coords.now a.zones.quotas.now a.zones.deepest.now a.row a.at c.place_zone-placed.result a.work.now.spots.now _ e z.0 z.1 p.0.key (omega (arith, z.0, most, long, p.0.stands.marks, a.work.now.room_spots)) in
-    (w, omega (arith, one_in a.sizing a.options (rectangles a.obstacles.now) a.zones.bytes.now a.zones.rings.now a.zones.sizes.now a.zones.coords.now a.zones.quotas.now a.zones.deepest.now a.row a.at e), omega (arith, w.ends, b, z.0, most, room_in a.row e), omega arith)
+    let all = zone_spots a.setting a.zones a.row a.at in
+    let most = p.fair e in
+    let room = a.work.now.room_spots in
+    let long =
+    ap length z.spots
+    ∙ length_written (flat (flatten all)) a.work.now.spots.now (omega (arith, length_joined all, most, p.zone.stands.marks, room)) in
+    let same =
+    bytes_in k.numbers a.setting.size k.options k.obstacles.now
+    n.bytes.now n.rings.now n.sizes.now n.coords.now n.quotas.now n.deepest.now a.row a.at
+    c.place_zone-placed.result a.work.now.spots.now _ e z.counted z.spots in
+    let b =
+    bytes_count k.numbers a.setting.size k.options k.obstacles.now
+    n.bytes.now n.rings.now n.sizes.now n.coords.now n.quotas.now n.deepest.now a.row a.at
+    c.place_zone-placed.result a.work.now.spots.now _ e z.counted z.spots p.zone.key
+    (omega (arith, z.counted, most, long, p.zone.stands.marks, room)) in
+    let one =
+    one_in k.numbers a.setting.size k.options k.obstacles.now
+    n.bytes.now n.rings.now n.sizes.now n.coords.now n.quotas.now n.deepest.now a.row a.at e in
+    let w = rw same at c.put_placement-to.ensures in
+    record {
+      put = w;
+      counted = omega (arith, one);
+      room = omega (arith, w.ends, b, z.counted, most, room_in a.row e);
+      one = omega arith;
+      same = record { lent = z.same.lent; spots = z.same.spots; spots_long = search rules };
+    }

@@ -28,4 +28,4 @@ returns-then-piece-n c =
     rw (alone _ _ s.0, and-true, ← c.outer.ensures.ring) c.ring_clearance.ensures
 
 pub returns : goal.returns
-returns c = rw (← c.inside_piece-inside.ensures, ← c.rings_square-square.ensures) c.with_root.ensures
+returns c = rw (← c.inside_piece-inside.ensures, ← c.rings.ensures, ← c.rings_square-square.ensures) c.with_root.ensures

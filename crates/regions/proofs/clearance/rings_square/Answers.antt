@@ -5,4 +5,4 @@ use Rattle.regions.proofs.clearance.rings_square.Goals as goal
 
 pub loop-ring-init : goal.loop-ring-init
 unfolding least_of_rings
-loop-ring-init c = (tt, tt, rw (infinite, c.into_iter-ring-iterator.ensures.into_iter_gives, c.rings-ring-items.ensures))
+loop-ring-init c = (tt, tt, rw (infinite, c.into_iter-ring-iterator.ensures.into_iter_gives))

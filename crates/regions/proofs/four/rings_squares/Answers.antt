@@ -7,4 +7,4 @@ use Rattle.regions.proofs.four.rings_squares.Goals as goal
 
 pub loop-ring-init : goal.loop-ring-init
 unfolding least_of_rings
-loop-ring-init c = (tt, tt, λ k. rw (all_at k (1ᶠ /ᶠ 0ᶠ), infinite, c.into_iter-ring-iterator.ensures.into_iter_gives, c.rings-ring-items.ensures))
+loop-ring-init c = (tt, tt, λ k. rw (all_at k (1ᶠ /ᶠ 0ᶠ), infinite, c.into_iter-ring-iterator.ensures.into_iter_gives))

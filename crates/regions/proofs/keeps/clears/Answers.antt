@@ -19,7 +19,7 @@ returns-then-margin c =
     let a = c.args in
     let piece = rings_of a.piece in
     let inside = sym c.inside_piece.ensures ∙ c.if-not-inside_piece.false in
-    c.dist_at_least.ensures ∙ ap (λ (x : Float). a.margin.least ≤ᶠ x) (sym (inside_is a.px a.py piece inside))
+    rw c.rings.ensures at c.dist_at_least.ensures ∙ ap (λ (x : Float). a.margin.least ≤ᶠ x) (sym (inside_is a.px a.py piece inside))
 
 pub returns : goal.returns
 returns c = rw c.signed_clearance.ensures

@@ -1,44 +1,38 @@
 -- `clears_obstacles` meets its contract. The invariant: the answer is that of the obstacles which are left.
--- Rests on the law that the distance is the root of its square, and on the laws that take a list of obstacles apart.
-use native.Mathlib.Nat.{sub-zero}
-use borrow.Author.Rules.{rules}
-use Rattle.glyphs.specs.Rect.{rectangles, clear_of_obstacles, rects_step, rects_end}
-use Rattle.regions.specs.Pillars.{rect_root}
+-- Rests on the law that the distance is the root of its square, and on the laws of what is left of some obstacles.
+use Rattle.std.proofs.Common.{◌≡◌, Bool, sym, ◌∙◌, Float}
+use Rattle.float.specs.Ops.{◌≤ᶠ◌, ◌≥ᶠ◌}
+use Rattle.float.specs.Order.{sqrt}
+use Rattle.glyphs.specs.declared.rect.Rectangle.{Rectangle}
+use Rattle.glyphs.specs.Rect.{dist_to_rect, clear_stops, clear_goes_on, clear_ends}
+use Rattle.regions.specs.Pillars.{rect_square, rect_root}
 use Rattle.regions.proofs.pillars.clears_obstacles.Goals as goal
 
-pub loop-k-init : goal.loop-k-init
-unfolding rectangles
-loop-k-init c = (search rules, search rules, simp sub-zero)
+-- the test by the square says what the distance says
+by_square :
+    (px py clearance square : Float) (rect : Rectangle) (r b : Bool) → square ≡ rect_square px py rect → r ≡ (clearance ≤ᶠ sqrt square) → r ≡ b
+    → dist_to_rect px py rect ≥ᶠ clearance ≡ b
+by_square px py clearance square rect r b e f g = rw (rect_root, ← e, ← f) g
 
 pub returns-then-not-root_at_least : goal.returns-then-not-root_at_least
-unfolding clear_of_obstacles
 returns-then-not-root_at_least c =
-    rw (
-      c.loop-k.invariant.2,
-      rects_step _ _ _ c.loop-k-test.true,
-      ← c.obstacle.ensures,
-      rect_root,
-      ← c.rect_square.ensures,
-      ← c.root_at_least.ensures,
-      c.if-not-root_at_least.true,
-    )
+    let a = c.args in
+    let l = c.loop-rect in
+    sym
+    (l.invariant
+    ∙ clear_stops a.px a.py a.margin.least a.obstacles.now l.rect-index _ c.loop-rect-test.true
+    (by_square a.px a.py a.margin.least _ _ _ _ c.rect_square.ensures c.root_at_least.ensures c.if-not-root_at_least.true))
 
-pub loop-k-preserved : goal.loop-k-preserved
-unfolding clear_of_obstacles
-loop-k-preserved c = (
-  search rules,
-  search rules,
-  rw (
-    c.loop-k.invariant.2,
-    rects_step _ _ _ c.loop-k-test.true,
-    ← c.obstacle.ensures,
-    rect_root,
-    ← c.rect_square.ensures,
-    ← c.root_at_least.ensures,
-    c.if-not-root_at_least.false,
-  ),
-)
+pub loop-rect-preserved : goal.loop-rect-preserved
+loop-rect-preserved c =
+    let a = c.args in
+    let l = c.loop-rect in
+    l.invariant
+    ∙ clear_goes_on a.px a.py a.margin.least a.obstacles.now l.rect-index _ c.loop-rect-test.true
+    (by_square a.px a.py a.margin.least _ _ _ _ c.rect_square.ensures c.root_at_least.ensures c.if-not-root_at_least.false)
 
 pub returns : goal.returns
-unfolding clear_of_obstacles
-returns c = rw (c.loop-k.invariant.2, rects_end _ _ _ c.loop-k-test.false)
+returns c =
+    let a = c.args in
+    let l = c.loop-rect in
+    sym (l.invariant ∙ clear_ends a.px a.py a.margin.least a.obstacles.now l.rect-index c.loop-rect-test.false)

@@ -1,7 +1,6 @@
 -- `first_accepted` meets its contract. The invariant: the answer is that of the tries which are left, from `step` on.
 -- Rests on the laws of one try.
 use Rattle.std.proofs.Common.{◌≡◌, suc, ◌-◌}
-use Rattle.glyphs.specs.Rect.{rectangles}
 use Rattle.glyphs.specs.Spots.{spots_of}
 use Rattle.regions.specs.Pieces.{rings_of}
 use Rattle.relax.specs.Moves.{first_accepted}
@@ -11,7 +10,7 @@ abbrev pub invariant-loop : goal.invariant-loop
 invariant-loop l =
     let field = l.field in
     let spots = spots_of l.spots in
-    first_accepted field.distances (rings_of field.piece) (rectangles field.obstacles.now) l.i spots l.honoring l.towards (suc l.backtracks) l.first
-    ≡ first_accepted field.distances (rings_of field.piece) (rectangles field.obstacles.now) l.i spots l.honoring l.towards
+    first_accepted field.distances (rings_of field.piece) field.obstacles.now l.i spots l.honoring l.towards (suc l.backtracks) l.first
+    ≡ first_accepted field.distances (rings_of field.piece) field.obstacles.now l.i spots l.honoring l.towards
     (suc (l.backtracks - l.counter))
     l.step

@@ -29,17 +29,20 @@ loop-k-preserved c =
     let room : l.count < length l.near / 2 = omega arith in
     let many : l.count < length (spots_of l.near) = simp length_spots room in
     let more : l.k < length s = simp length_spots (omega arith) in
-    let at : get_or s l.k q ≡ q = spots_at_lem a.spots.now l.k q (omega arith) ∙ sym c.spot-q.ensures in (
-      omega (arith, flag_le (not c.apart-far.result)),
-      search rules,
-      λ (f : Force).
+    let at : get_or s l.k q ≡ q = spots_at_lem a.spots.now l.k q (omega arith) ∙ sym c.spot-q.ensures in
+    let many_now = l.count + bool_byte (not c.apart-far.result) in
+    record {
+      few = omega (arith, flag_le (not c.apart-far.result));
+      room = search rules;
+      pushes =
+          λ (f : Force).
           let start = foldl g f (take a.m (spots_of a.near.now)) in
-          ap (λ (t : List Point). foldl g f (take (l.count + bool_byte (not c.apart-far.result)) t)) (ap spots_of put.ensures ∙ spots_put l.near l.count q room)
+          ap (λ (t : List Point). foldl g f (take many_now t)) (ap spots_of put.ensures ∙ spots_put l.near l.count q room)
           ∙ ap (λ (b : Bool). foldl g f (take (l.count + bool_byte (not b)) (set (spots_of l.near) l.count q))) c.apart-far.ensures
           ∙ gathered a.influence a.p (spots_of l.near) l.count q f many
-          ∙ ap (λ (x : Force). g x q) (l.invariant.2 f)
-          ∙ sym (fold_next g start s l.k q more ∙ ap (g (foldl g start (take l.k s))) at),
-    )
+          ∙ ap (λ (x : Force). g x q) (l.invariant.pushes f)
+          ∙ sym (fold_next g start s l.k q more ∙ ap (g (foldl g start (take l.k s))) at);
+    }
 
 pub returns : goal.returns
 returns c =
@@ -47,4 +50,9 @@ returns c =
     let a = c.args in
     let s = spots_of a.spots.now in
     let all : length s ≤ l.k = simp length_spots (omega arith) in
-    (omega arith, l.invariant.1, λ (f : Force). l.invariant.2 f ∙ ap (foldl (push_of a.influence a.p) (foldl (push_of a.influence a.p) f (take a.m (spots_of a.near.now)))) (take_all l.k s all))
+    let g : Force → Point → Force = push_of a.influence a.p in
+    record {
+      few = omega arith;
+      room = l.invariant.room;
+      pushes = λ (f : Force). l.invariant.pushes f ∙ ap (foldl g (foldl g f (take a.m (spots_of a.near.now)))) (take_all l.k s all);
+    }

@@ -1,6 +1,7 @@
 -- `push_few` meets its contract: the marks before mark i and those after it that are near enough, gathered, push as all do.
 -- Rests on the contracts of what it calls.
-use Rattle.std.proofs.Common.{◌≡◌, ℕ, ◌+◌, ◌*◌, ◌/◌, ◌<◌, ◌≤◌, ◌-◌, List, Float, length, take, drop, length-take, length-drop, length-take-le, sym, ap, ◌∙◌, arith}
+use Rattle.std.proofs.Common.{◌≡◌, ℕ, ◌+◌, ◌*◌, ◌/◌, ◌<◌, ◌≤◌, ◌-◌, List, Float, length, take, drop, sym, ap, ◌∙◌, arith}
+use Rattle.std.proofs.Common.{length-take, length-drop, length-take-le}
 use mathlib.Core.List.{foldl}
 use Rattle.glyphs.specs.declared.rect.Point.{Point}
 use Rattle.glyphs.specs.Spots.{spots_of, spots_take, length_spots}
@@ -14,7 +15,9 @@ before spots part i e =
     let n : length part / 2 ≡ length (take i (spots_of spots)) = sym (length_spots part) ∙ ap length e in
     rw n (simp length-take (omega arith))
 
-after : (spots part : List Float) (i : ℕ) → spots_of part ≡ drop (i + 1) (spots_of spots) → i < length spots / 2 → length part / 2 + (i + 1) ≤ length spots / 2
+after :
+    (spots part : List Float) (i : ℕ) → spots_of part ≡ drop (i + 1) (spots_of spots) → i < length spots / 2
+    → length part / 2 + (i + 1) ≤ length spots / 2
 after spots part i e h =
     let n : length part / 2 ≡ length spots / 2 - (i + 1) = sym (length_spots part) ∙ ap length e ∙ simp (length-drop, length_spots) in
     omega (arith, n)
@@ -26,20 +29,20 @@ pub gather-all-requires : goal.gather-all-requires
 gather-all-requires c =
     let b = before c.args.spots.now _ c.args.i c.spots_before.ensures in
     let a = after c.args.spots.now _ c.args.i c.spots_after.ensures c.requires.0 in
-    omega (arith, b, a, c.gather-before.ensures.0, c.gather-before.ensures.1)
+    omega (arith, b, a, c.gather-before.ensures.few, c.gather-before.ensures.room)
 
 pub slice_bounds-near-end : goal.slice_bounds-near-end
 slice_bounds-near-end c =
     let b = before c.args.spots.now _ c.args.i c.spots_before.ensures in
     let a = after c.args.spots.now _ c.args.i c.spots_after.ensures c.requires.0 in
-    omega (arith, b, a, c.gather-before.ensures.0, c.gather-before.ensures.1, c.gather-all.ensures.0, c.gather-all.ensures.1)
+    omega (arith, b, a, c.gather-before.ensures.few, c.gather-before.ensures.room, c.gather-all.ensures.few, c.gather-all.ensures.room)
 
 pub slice_bounds-push_near-end : goal.slice_bounds-push_near-end
 slice_bounds-push_near-end c =
     let b = before c.args.spots.now _ c.args.i c.spots_before.ensures in
     let a = after c.args.spots.now _ c.args.i c.spots_after.ensures c.requires.0 in
     let room : c.gather-all.result * 2 ≤ length c.gather-all.new.near =
-    omega (arith, b, a, c.gather-before.ensures.0, c.gather-before.ensures.1, c.gather-all.ensures.0, c.gather-all.ensures.1) in
+    omega (arith, b, a, c.gather-before.ensures.few, c.gather-before.ensures.room, c.gather-all.ensures.few, c.gather-all.ensures.room) in
     sym (length-take-le _ _ room)
 
 pub returns : goal.returns
@@ -48,6 +51,7 @@ returns c =
     let g : Force → Point → Force = push_of a.influence a.p in
     c.push_near.ensures
     ∙ ap (foldl g no_force) (spots_take c.gather-all.result c.gather-all.new.near)
-    ∙ c.gather-all.ensures.2 no_force
-    ∙ ap (λ (x : Force). foldl g x (spots_of c.spots_after.result.now)) (c.gather-before.ensures.2 no_force ∙ ap (foldl g no_force) c.spots_before.ensures)
+    ∙ c.gather-all.ensures.pushes no_force
+    ∙ ap (λ (x : Force). foldl g x (spots_of c.spots_after.result.now))
+    (c.gather-before.ensures.pushes no_force ∙ ap (foldl g no_force) c.spots_before.ensures)
     ∙ ap (foldl g (foldl g no_force (take a.i (spots_of a.spots.now)))) c.spots_after.ensures

@@ -1,7 +1,7 @@
 -- `push_two` meets its contract, where both neighbours push and where not both do.
 -- Rests on the contracts of what it calls.
 use Rattle.std.proofs.Common.{◌≡◌, ℕ, List, get_or, sym, ap, ◌∙◌}
-use mathlib.Core.Bool.{true, ◌&&◌}
+use mathlib.Core.Bool.{true}
 use lib.Ieee.{Float, nan}
 use Rattle.laws.specs.Truth.{both_true}
 use Rattle.float.specs.Order.{sqrt}
@@ -11,7 +11,9 @@ use Rattle.relax.specs.Others.{reaches}
 use Rattle.relax.proofs.push.push_two.Goals as goal
 
 -- a test that is passed, of what was measured
-reached : (influence square measured : Float) {answer : _} → measured ≡ square → answer ≡ reaches influence measured → answer ≡ true → reaches influence square ≡ true
+reached :
+    (influence square measured : Float) {answer : _} → measured ≡ square → answer ≡ reaches influence measured → answer ≡ true
+    → reaches influence square ≡ true
 reached influence square measured e a t = sym (a ∙ ap (reaches influence) e) ∙ t
 
 root : (k : ℕ) {roots squares : List Float} → roots ≡ squares → get_or roots k nan ≡ get_or squares k nan

@@ -1,7 +1,6 @@
 -- `relax_scatter` meets its contract: the notes, and then the sweeps where there is something to do.
 -- Rests on the laws of what the lists hold in the end.
 use Rattle.std.proofs.Common.{◌≡◌, true, false, length, refl, sym, ◌∙◌, arith, rules}
-use Rattle.glyphs.specs.Rect.{rectangles}
 use Rattle.glyphs.specs.Spots.{spots_of, length_spots}
 use Rattle.regions.specs.Pieces.{rings_of}
 use Rattle.relax.specs.Field.{field_of}
@@ -17,7 +16,7 @@ returns-then-idle c =
     let points = spots_of a.spots.now in
     let n : length c.note_honoring.new.honoring ≡ length points = simp length_spots (omega arith) in
     let h : idle (length points) a.spacing ≡ true = rw (← n, ← c.idle.ensures) c.if-idle.true in
-    let e = idle_end a.numbers points (rings_of a.piece) (rectangles a.obstacles.now) a.spacing a.inset a.spots.now (length a.unrooted.now)
+    let e = idle_end a.numbers points (rings_of a.piece) a.obstacles.now a.spacing a.inset a.spots.now (length a.unrooted.now)
     refl (omega arith) h in
     record { spots = e.0; unrooted = rw (c.note_unrooted.ensures, noted_roots) e.1; honoring = c.note_honoring.ensures }
 
@@ -36,11 +35,11 @@ returns c =
     let h : idle (length points) a.spacing ≡ false = rw (← n, ← c.idle.ensures) c.if-idle.false in
     let s :
     scatter_of marks
-    ≡ relax_sweeps a.numbers (around a.numbers points piece (rectangles a.obstacles.now) a.spacing a.inset)
+    ≡ relax_sweeps a.numbers (around a.numbers points piece a.obstacles.now a.spacing a.inset)
     (record { points = points; clearance = clearances_of piece points }) =
     c.relax_sweeps.ensures.moved ∙ rw (c.of.ensures, c.note_honoring.ensures, c.note_unrooted.ensures, noted_roots) in
     let count : length marks.honoring.now ≡ length c.note_honoring.new.honoring = rw c.relax_sweeps.ensures.keeps.honoring in
-    let e = busy_end a.numbers points piece (rectangles a.obstacles.now) a.spacing a.inset marks.spots.now marks.unrooted.now (length a.unrooted.now)
+    let e = busy_end a.numbers points piece a.obstacles.now a.spacing a.inset marks.spots.now marks.unrooted.now (length a.unrooted.now)
     (omega (arith, c.requires.1, c.note_honoring.auto.honoring, count, marks.pairs, marks.flags))
     h
     s in

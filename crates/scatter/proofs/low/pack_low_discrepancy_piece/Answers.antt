@@ -7,7 +7,6 @@ use lib.ListN.{length}
 use Rattle.laws.specs.Lists.{written}
 use Rattle.std.specs.Prelude.{None}
 use Rattle.glyphs.specs.declared.rect.Point.{Point}
-use Rattle.glyphs.specs.Rect.{rectangles}
 use Rattle.glyphs.specs.Spots.{flat}
 use Rattle.regions.specs.Pieces.{rings_of}
 use Rattle.scatter.specs.LowDiscrepancy.{pack_scatter}
@@ -19,7 +18,7 @@ pub returns-then-n-eq0 : goal.returns-then-n-eq0
 unfolding written flat
 returns-then-n-eq0 c =
     let a = c.args in
-    let e = sym (no_marks a.anchor (rings_of a.piece) a.n a.ctx (rectangles a.obstacles.now) c.if-n-eq0.true) in
+    let e = sym (no_marks a.anchor (rings_of a.piece) a.n a.ctx a.obstacles.now c.if-n-eq0.true) in
     (ap length e, ap (λ (ps : List Point). written (flat ps) a.spots.now) e)
 
 pub returns-in_default : goal.returns-in_default
@@ -27,7 +26,7 @@ unfolding written flat
 returns-in_default c =
     let a = c.args in
     let none : c.piece_bounds.result ≡ None = search rules in
-    let e = sym (unbounded a.anchor (rings_of a.piece) a.n a.ctx (rectangles a.obstacles.now) c.if-n-eq0.false (sym c.piece_bounds.ensures ∙ none)) in
+    let e = sym (unbounded a.anchor (rings_of a.piece) a.n a.ctx a.obstacles.now c.if-n-eq0.false (sym c.piece_bounds.ensures ∙ none)) in
     (ap length e, ap (λ (ps : List Point). written (flat ps) a.spots.now) e)
 
 pub returns : goal.returns
@@ -35,7 +34,7 @@ returns c =
     let a = c.args in
     let s = c.of.result in
     let e = c.of.ensures in
-    let near = rectangles a.obstacles.now in
+    let near = a.obstacles.now in
     let boxed : Boxed s = rw (e.piece, e.extents) (sym c.piece_bounds.ensures ∙ c.in-Some.is) in
     let same : pack_scatter a.anchor (rings_of s.piece) s.n s.ctx near ≡ pack_scatter a.anchor (rings_of a.piece) a.n a.ctx near = rw (e.piece, e.n, e.ctx) in
     rw (scatter_at s a.anchor near (rw e.n c.if-n-eq0.false) boxed e.near, same) at c.passes.ensures

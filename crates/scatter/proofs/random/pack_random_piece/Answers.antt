@@ -6,7 +6,6 @@ use native.Mathlib.Omega.{arith}
 use borrow.Author.Rules.{rules}
 use Rattle.laws.specs.Lists.{written}
 use Rattle.std.specs.Prelude.{None}
-use Rattle.glyphs.specs.Rect.{rectangles}
 use Rattle.glyphs.specs.Spots.{flat}
 use Rattle.regions.specs.Pieces.{rings_of}
 use Rattle.scatter.specs.Sites.{Boxed}
@@ -19,7 +18,7 @@ unfolding written flat
 returns-in_default c =
     let a = c.args in
     let none : c.piece_bounds.result ≡ None = search rules in
-    let e = no_marks a.numbers (rings_of a.piece) a.n a.attempts a.ctx (rectangles a.obstacles.now) a.rng (sym c.piece_bounds.ensures ∙ none) in
+    let e = no_marks a.numbers (rings_of a.piece) a.n a.attempts a.ctx a.obstacles.now a.rng (sym c.piece_bounds.ensures ∙ none) in
     rw e (refl, refl, refl)
 
 pub relax_placed-requires : goal.relax_placed-requires
@@ -35,7 +34,7 @@ returns-then-ctx c =
     let a = c.args in
     let s = c.of-site.result in
     let e = c.of-site.ensures in
-    let near = rectangles a.obstacles.now in
+    let near = a.obstacles.now in
     let boxed : Boxed s = rw (e.piece, e.extents) (sym c.piece_bounds.ensures ∙ c.in-Some.is) in
     let same : whole a.numbers s a.attempts near a.rng ≡ pack_random_piece a.numbers (rings_of a.piece) a.n a.attempts a.ctx near a.rng =
     rw (e.piece, e.n, e.ctx) in
@@ -48,7 +47,7 @@ returns-else-ctx c =
     let a = c.args in
     let s = c.of-site.result in
     let e = c.of-site.ensures in
-    let near = rectangles a.obstacles.now in
+    let near = a.obstacles.now in
     let boxed : Boxed s = rw (e.piece, e.extents) (sym c.piece_bounds.ensures ∙ c.in-Some.is) in
     let same : pack_random_piece a.numbers (rings_of a.piece) a.n a.attempts a.ctx near a.rng ≡ whole a.numbers s a.attempts near a.rng =
     rw (e.piece, e.n, e.ctx) in

@@ -2,7 +2,6 @@
 -- Rests on the law that the relaxation keeps the number of marks.
 use mathlib.Core.Path.{◌≡◌, ◌∙◌}
 use lib.ListN.{length, take}
-use Rattle.glyphs.specs.Rect.{rectangles}
 use Rattle.glyphs.specs.Spots.{spots_of, spots_take}
 use Rattle.regions.specs.Pieces.{rings_of}
 use Rattle.relax.specs.Kept.{length_relaxed}
@@ -16,7 +15,7 @@ returns c =
     let a = c.args in
     let site = a.site.now in
     let piece = rings_of site.piece in
-    let near = rectangles site.near.now in
+    let near = site.near.now in
     let ps = take a.count (spots_of a.spots.now) in
     let n : length (relax_scatter a.numbers ps piece near (spacing site.ctx) (inset site.ctx)) ≡ a.count =
     length_relaxed a.numbers ps piece near (spacing site.ctx) (inset site.ctx) ∙ length_first a.count a.spots.now c.requires.2 in

@@ -51,7 +51,8 @@ invariant_of-result c =
 pub returns-clause-steps : goal.returns-clause-steps
 returns-clause-steps c =
     let self = c.args.self.now in
-    rw (c.split_at-2.ensures.back, c.total.ensures, c.split_at.ensures.back, c.split_at.ensures.front) (first_piece _ _ _ self.sizes.now self.coords.now c.in_ok-rings.ensures.cases.0)
+    rw (c.split_at-2.ensures.back, c.total.ensures, c.split_at.ensures.back, c.split_at.ensures.front)
+    (first_piece _ _ _ self.sizes.now self.coords.now c.in_ok-rings.ensures.cases.0)
 
 pub returns-clause-goes : goal.returns-clause-goes
 returns-clause-goes c =

@@ -12,13 +12,14 @@ use Rattle.format.specs.RefusalLaws.{stopped}
 use Rattle.format.proofs.pieces.Pieces.read_pieces.Goals as goal
 
 pub returns-in_err-read_piece-clause-fault : goal.returns-in_err-read_piece-clause-fault
-returns-in_err-read_piece-clause-fault c =
+returns-in_err-read_piece-clause-fault g c =
     let l = c.loop-i in
     let s = c.args.job.now.bytes.now in
-    stopped (piece_end s) (piece_fault s) _ _ c.args.n l._i l.job.at (omega arith) (rw l.invariant.0 at c.in_err-read_piece.ensures.fault) l.invariant.4 c.from_residual.ensures.1
+    let f = rw l.invariant.0 at c.in_err-read_piece.ensures.fault in
+    stopped (piece_end s) (piece_fault s) _ _ c.args.n l._i l.job.at (omega arith) f l.invariant.4 c.from_residual.ensures.1
 
 pub loop-i-preserved : goal.loop-i-preserved
-loop-i-preserved c =
+loop-i-preserved g c =
     let l = c.loop-i in
     let s = c.args.job.now.bytes.now in
     let n = c.args.n in
@@ -27,10 +28,11 @@ loop-i-preserved c =
     let m : i < n = omega arith in
     let o = c.in_ok-read_piece.ensures in
     let f = rw l.invariant.0 at o.fault in
+    let inside = rw (o.bytes, l.invariant.0) at c.read_piece.new.job.inside in
     let r = rw l.invariant.0 at o.read in
     let few = few_rings_lem s at (sym f) in (
       o.bytes ∙ l.invariant.0,
-      record { behind = r.behind; short = l.invariant.1.short },
+      omega (arith, r.few, inside, l.invariant.1),
       rw r.sizes (simp length-append (omega (arith, few, l.invariant.2))),
       rw r.rings (simp length-append (omega (arith, l.invariant.3))),
       faults_turn (piece_end s) (piece_fault s) n i at m f r.at l.invariant.4,
@@ -38,23 +40,24 @@ loop-i-preserved c =
       flat_turn (piece_end s) (piece_coords s) l.self.coords.items n i at m r.at r.coords l.invariant.6,
       flat_turn (piece_end s) (ring_sizes s) l.self.sizes.items n i at m r.at r.sizes l.invariant.7,
       each_turn (piece_end s) (u8 s) l.self.rings.items n i at m r.at r.rings l.invariant.8,
+      omega (arith, r.few, l.invariant.9),
     )
 
 pub returns-clause-fault : goal.returns-clause-fault
-returns-clause-fault c =
+returns-clause-fault g c =
     let l = c.loop-i in
     let s = c.args.job.now.bytes.now in
     faults_end (piece_end s) (piece_fault s) c.args.n l._i l.job.at (omega arith) l.invariant.4
 
 pub returns-clause-read : goal.returns-clause-read
-returns-clause-read c =
+returns-clause-read g c =
     let l = c.loop-i in
     let s = c.args.job.now.bytes.now in
     let n = c.args.n in
     let at = l.job.at in
     record {
       at = past_end (piece_end s) n l._i at (omega arith) l.invariant.5;
-      behind = l.invariant.1.behind;
+      few = omega (arith, l.invariant.9);
       coords = flat_end (piece_end s) (piece_coords s) l.self.coords.items n l._i at (omega arith) l.invariant.6;
       sizes = flat_end (piece_end s) (ring_sizes s) l.self.sizes.items n l._i at (omega arith) l.invariant.7;
       rings = each_end (piece_end s) (u8 s) l.self.rings.items n l._i at (omega arith) l.invariant.8;

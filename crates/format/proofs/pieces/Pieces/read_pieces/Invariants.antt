@@ -11,16 +11,17 @@ use Rattle.format.specs.Steps.{Room}
 use Rattle.format.proofs.pieces.Pieces.read_pieces.Given as goal
 
 abbrev pub invariant-loop-i : goal.invariant-loop-i
-invariant-loop-i l =
+invariant-loop-i g l =
     let s = l.initial.job.bytes.now in
     let from = l.initial.job.at in
     let left = l.n - l._i in
     (l.job.bytes ≡ l.initial.job.bytes)
     × Room s l.job.at l.self
-    × (length l.self.sizes.items + 9 * left ≤ 9216)
-    × (length l.self.rings.items + left ≤ 1024)
+    × (length l.self.sizes.items + 9 * left ≤ g.row.RINGS)
+    × (length l.self.rings.items + left ≤ g.row.PIECES)
     × (faults (piece_fault s) (piece_end s) l.n from ≡ faults (piece_fault s) (piece_end s) left l.job.at)
     × (past (piece_end s) l.n from ≡ past (piece_end s) left l.job.at)
     × (l.initial.self.coords.items ++ flat (piece_coords s) (piece_end s) l.n from ≡ l.self.coords.items ++ flat (piece_coords s) (piece_end s) left l.job.at)
     × (l.initial.self.sizes.items ++ flat (ring_sizes s) (piece_end s) l.n from ≡ l.self.sizes.items ++ flat (ring_sizes s) (piece_end s) left l.job.at)
     × (l.initial.self.rings.items ++ each (u8 s) (piece_end s) l.n from ≡ l.self.rings.items ++ each (u8 s) (piece_end s) left l.job.at)
+    × (4 * length l.self.coords.items + from ≤ 4 * length l.initial.self.coords.items + l.job.at)

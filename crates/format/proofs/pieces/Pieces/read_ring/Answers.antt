@@ -15,31 +15,32 @@ use Rattle.format.proofs.pieces.Pieces.read_ring.Goals as goal
 
 pub returns-in_err-vertices-clause-fault : goal.returns-in_err-vertices-clause-fault
 unfolding ring_fault
-returns-in_err-vertices-clause-fault c = fails _ _ _ _ c.in_err-vertices.ensures.fault c.from_residual.ensures.1
+returns-in_err-vertices-clause-fault g c = fails _ _ _ _ c.in_err-vertices.ensures.fault c.from_residual.ensures.1
 
 pub returns-in_err-coords-clause-fault : goal.returns-in_err-coords-clause-fault
 unfolding ring_fault
-returns-in_err-coords-clause-fault c =
+returns-in_err-coords-clause-fault g c =
     let o = c.in_ok-vertices.ensures in
     passes _ _ o.fault (handed _ _ (c.in_err-coords.ensures.fault ∙ rw (o.bytes, o.next, o.value.0)) c.from_residual-in_err-coords.ensures.1)
 
 pub returns-clause-fault : goal.returns-clause-fault
 unfolding ring_fault
-returns-clause-fault c =
+returns-clause-fault g c =
     let o = c.in_ok-vertices.ensures in
     passes _ _ o.fault (c.in_ok-coords.ensures.fault ∙ rw (o.bytes, o.next, o.value.0))
 
 pub returns-clause-read : goal.returns-clause-read
 unfolding ring_end ring
-returns-clause-read c =
+returns-clause-read g c =
     let o = c.in_ok-vertices.ensures in
     let r = c.in_ok-coords.ensures in
     let s = c.args.job.now.bytes.now in
     let at = c.args.job.now.at in
-    let v : c.coords.new.out.items ≡ c.args.self.now.coords.items ++ each (coord_at s) next_coord (2 * u16 s at) (at + 2) = r.values ∙ rw (o.bytes, o.next, o.value.0) in
+    let v : c.coords.new.out.items ≡ c.args.self.now.coords.items ++ each (coord_at s) next_coord (2 * u16 s at) (at + 2) =
+    r.values ∙ rw (o.bytes, o.next, o.value.0) in
     record {
       at = r.next ∙ omega (arith, o.next, o.value.0);
-      behind = rw v (simp length-append (omega (arith, r.next, o.next, o.value.0, length_each next_coord (coord_at s) (2 * u16 s at) (at + 2))));
+      few = rw v (simp length-append (omega (arith, r.next, o.next, o.value.0, length_each next_coord (coord_at s) (2 * u16 s at) (at + 2))));
       coords = v;
       sizes = c.push.ensures.items ∙ rw o.value.0;
       rings = sym (append-nil _);

@@ -20,7 +20,9 @@ pub returns-in_err-coord-clause-fault : goal.returns-in_err-coord-clause-fault
 returns-in_err-coord-clause-fault g c =
     let l = c.loop-i in
     let s = c.args.self.now.bytes.now in
-    stopped next_coord (coord_in s (number_of c.args.refusal)) _ _ c.args.n l._i l.self.at (omega arith) (rw l.invariant.0 at c.in_err-coord.ensures.fault) l.invariant.3 c.from_residual.ensures.1
+    let f = rw l.invariant.0 at c.in_err-coord.ensures.fault in
+    let r = c.from_residual.ensures.1 in
+    stopped next_coord (coord_in s (number_of c.args.refusal)) _ _ c.args.n l._i l.self.at (omega arith) f l.invariant.3 r
 
 pub loop-i-preserved : goal.loop-i-preserved
 loop-i-preserved g c =
@@ -32,10 +34,11 @@ loop-i-preserved g c =
     let m : i < a.n = omega arith in
     let f = rw l.invariant.0 at o.fault in
     let v = rw l.invariant.0 at o.value in
+    let r = room_turn (length l.out.items) (a.n - i) l.self.at (length s) g.row.N (omega arith) (coord_inside s _ l.self.at (sym f)) l.invariant.2 in
     let p = c.push.ensures in (
       o.bytes ∙ l.invariant.0,
       omega (arith, o.next, l.invariant.1),
-      omega (arith, p.len, o.next, (room_turn (length l.out.items) (a.n - i) l.self.at (length s) g.row.N (omega arith) (coord_inside s _ l.self.at (sym f)) l.invariant.2).1),
+      omega (arith, p.len, o.next, r.1),
       faults_turn next_coord (coord_in s (number_of a.refusal)) a.n i l.self.at m f o.next l.invariant.3,
       each_turn next_coord (coord_at s) l.out.items a.n i l.self.at m o.next (rw v at p.items) l.invariant.4,
     )

@@ -15,5 +15,11 @@ returns-then-signed_clearance-self c =
 pub returns : goal.returns
 unfolding consider
 returns c =
-    rw (← c.clear_of_obstacles.ensures, c.if-not-clear_of_obstacles.false, ← c.signed_clearance.ensures, c.if-signed_clearance-self.false, ← c.squared_distance-square.ensures)
+    rw (
+      ← c.clear_of_obstacles.ensures,
+      c.if-not-clear_of_obstacles.false,
+      ← c.signed_clearance.ensures,
+      c.if-signed_clearance-self.false,
+      ← c.squared_distance-square.ensures,
+    )
     c.nearest.ensures

@@ -1,7 +1,6 @@
 -- `gather_row` meets its contract. The invariant: the cells are those gathered from what the slices and the run hold and the cells which are left.
 -- Rests on the laws of what two slices and the run hold and of a turn over a row.
 use Rattle.std.proofs.Common.{◌+◌, ◌≤◌, length, sym, refl, ap, ◌∙◌, arith}
-use Rattle.glyphs.specs.Rect.{rectangles}
 use Rattle.regions.specs.Pieces.{rings_of}
 use Rattle.lattice.specs.Gather.{gather, gather_from, row_start, row_none, row_turn, row_done}
 use Rattle.lattice.specs.Gathered.{kept_of, gathered_in, waits_begun, begun_are, holds_merged, merged_fit}
@@ -13,13 +12,14 @@ use Rattle.lattice.proofs.gather.Gathering.gather_row.Goals as goal
 pub returns-then-row-eq0-clause-cells : goal.returns-then-row-eq0-clause-cells
 returns-then-row-eq0-clause-cells c =
     let a = c.args in
-    holds_as (holds_start a.wanted.anchor a.wanted.free a.wanted.blocked (kept_of a.self.now.t) a.self.now.free.now a.self.now.blocked.now c.requires) (sym (row_none _ _ _ _ _ _ _ a.row c.if-row-eq0.true))
+    holds_as (holds_start a.wanted.anchor a.wanted.free a.wanted.blocked (kept_of a.self.now.t) a.self.now.free.now a.self.now.blocked.now c.requires)
+    (sym (row_none _ _ _ _ _ _ _ a.row c.if-row-eq0.true))
 
 pub loop-k-init : goal.loop-k-init
 loop-k-init c =
     let a = c.args in
     let rings = rings_of a.site.piece in
-    let near = rectangles a.site.near.now in (
+    let near = a.site.near.now in (
       refl,
       refl,
       refl,
@@ -27,7 +27,8 @@ loop-k-init c =
       waits_begun a.wanted.anchor a.wanted.free a.wanted.blocked (kept_of a.self.now.t) a.self.now.free.now a.self.now.blocked.now a.self.now.run c.requires,
       holds_start a.wanted.anchor a.wanted.free a.wanted.blocked (kept_of a.self.now.t) a.self.now.free.now a.self.now.blocked.now c.requires,
       ap (λ (cells : HexCells). gather rings a.site.margin.least near a.wanted.anchor a.wanted.free a.wanted.blocked cells (cells_in a.row))
-          (sym (begun_are a.wanted.anchor a.wanted.free a.wanted.blocked (kept_of a.self.now.t) a.self.now.free.now a.self.now.blocked.now a.self.now.run c.requires))
+          (sym (begun_are a.wanted.anchor a.wanted.free a.wanted.blocked (kept_of a.self.now.t) a.self.now.free.now a.self.now.blocked.now
+          a.self.now.run c.requires))
           ∙ row_start rings a.site.margin.least near a.wanted.anchor a.wanted.free a.wanted.blocked _ a.row,
     )
 
@@ -36,11 +37,12 @@ loop-k-preserved c =
     let l = c.loop-k in
     let a = c.args in
     let rings = rings_of a.site.piece in
-    let near = rectangles a.site.near.now in
+    let near = a.site.near.now in
     let cells = gathered_in a.wanted.anchor a.wanted.free l.self.t l.self.free.now l.self.blocked.now l.self.run in
-    let g = c.gather_cell.ensures.cells in
+    let g = rw c.find.ensures.site at c.gather_cell.ensures.cells in
     let held =
-    turn a.wanted.anchor a.wanted.free a.wanted.blocked (kept_of l.self.t) l.self.free.now l.self.blocked.now l.invariant.4.ready a.self.now.free.now a.self.now.blocked.now l.invariant.5
+    turn a.wanted.anchor a.wanted.free a.wanted.blocked (kept_of l.self.t) l.self.free.now l.self.blocked.now l.invariant.4.ready a.self.now.free.now
+    a.self.now.blocked.now l.invariant.5
     _ (g.waits.ready.fit, g.grown) _ _ _ g.holds in (
       c.gather_cell.ensures.same_free ∙ l.invariant.0,
       c.gather_cell.ensures.same_blocked ∙ l.invariant.1,
@@ -50,7 +52,8 @@ loop-k-preserved c =
       held.2,
       l.invariant.6
           ∙ row_turn rings a.site.margin.least near a.wanted.anchor a.wanted.free a.wanted.blocked cells a.row l.k c.loop-k-test.true _ c.cell.ensures
-          ∙ ap (λ (later : HexCells). gather_from rings a.site.margin.least near a.wanted.anchor a.wanted.free a.wanted.blocked later a.row (l.k + 1)) (sym g.cells_are),
+          ∙ ap (λ (later : HexCells). gather_from rings a.site.margin.least near a.wanted.anchor a.wanted.free a.wanted.blocked later a.row (l.k + 1))
+          (sym g.cells_are),
     )
 
 pub returns-clause-cells : goal.returns-clause-cells
@@ -60,8 +63,10 @@ returns-clause-cells c =
     let w = l.invariant.4 in
     let room : 64 ≤ length l.self.run = omega arith in
     let held =
-    turn a.wanted.anchor a.wanted.free a.wanted.blocked (kept_of l.self.t) l.self.free.now l.self.blocked.now w.ready a.self.now.free.now a.self.now.blocked.now l.invariant.5
+    turn a.wanted.anchor a.wanted.free a.wanted.blocked (kept_of l.self.t) l.self.free.now l.self.blocked.now w.ready a.self.now.free.now
+    a.self.now.blocked.now l.invariant.5
     (gathered_in a.wanted.anchor a.wanted.free l.self.t l.self.free.now l.self.blocked.now l.self.run)
     (merged_fit a.wanted.anchor a.wanted.free a.wanted.blocked l.self.t l.self.free.now l.self.blocked.now l.self.run w room) _ _ _
-    (holds_merged a.wanted.anchor a.wanted.free a.wanted.blocked l.self.t l.self.free.now l.self.blocked.now l.self.run w room _ _ c.merge_run-self.ensures.0 c.merge_run-self.ensures.1) in
+    (holds_merged a.wanted.anchor a.wanted.free a.wanted.blocked l.self.t l.self.free.now l.self.blocked.now l.self.run w room _ _
+    c.merge_run-self.ensures.0 c.merge_run-self.ensures.1) in
     holds_as held.2 (held.0 ∙ sym (l.invariant.6 ∙ row_done _ _ _ _ _ _ _ a.row l.k c.loop-k-test.false))

@@ -1,7 +1,6 @@
 -- `gather_row` meets its contract. The invariant: the cells are those gathered from what the slices and the run hold and the cells which are left.
 -- Rests on the laws of what two slices and the run hold and of a turn over a row.
 use Rattle.std.proofs.Common.{◌≡◌, length}
-use Rattle.glyphs.specs.Rect.{rectangles}
 use Rattle.regions.specs.Pieces.{rings_of}
 use Rattle.lattice.specs.Gather.{gather, gather_from}
 use Rattle.lattice.specs.Gathered.{held_by, gathered_by, IsWaiting, HoldsNow}
@@ -11,7 +10,7 @@ use Rattle.lattice.proofs.gather.Gathering.gather_row.Given as goal
 abbrev pub invariant-loop-k : goal.invariant-loop-k
 invariant-loop-k l =
     let rings = rings_of l.site.piece in
-    let near = rectangles l.site.near.now in
+    let near = l.site.near.now in
     let w = l.wanted in
     (l.self.free.ghost_name ≡ l.initial.self.free.ghost_name)
     × (l.self.blocked.ghost_name ≡ l.initial.self.blocked.ghost_name)

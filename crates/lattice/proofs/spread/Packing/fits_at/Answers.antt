@@ -7,4 +7,4 @@ use Rattle.lattice.proofs.spread.Packing.fits_at.Goals as goal
 
 pub returns : goal.returns
 unfolding field_fits available
-returns c = c.is_enough.ensures ∙ rw (c.count_cells-t.ensures, c.at_spacing-widened.ensures)
+returns c = c.is_enough.ensures ∙ rw (c.count_with-t.ensures, c.at_spacing-widened.ensures)

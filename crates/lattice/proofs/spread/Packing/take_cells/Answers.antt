@@ -3,7 +3,6 @@
 use Rattle.std.proofs.Common.{◌≡◌, List, length, sym, ap, ◌∙◌, arith, length-take}
 use Rattle.laws.specs.Lists.{written}
 use Rattle.glyphs.specs.declared.rect.Point.{Point}
-use Rattle.glyphs.specs.Rect.{rectangles}
 use Rattle.regions.specs.Pieces.{rings_of}
 use Rattle.glyphs.specs.Spots.{flat}
 use Rattle.lattice.specs.Gather.{kept}
@@ -18,11 +17,12 @@ unfolding field_take
 returns c =
     let a = c.args in
     let piece = rings_of a.self.site.piece in
-    let near = rectangles a.self.site.near.now in
+    let near = a.self.site.near.now in
     let cells = cells_of a.self.field piece a.self.site.margin.least near never in
     let done =
     fill a.self.n (kept a.self.field.anchor a.self.n c.none_if-nb.result cells) _ _ _ _ _ c.gather_cells-t.ensures
     (omega (arith, length-take a.self.n (sort_by_anchor a.self.field.anchor cells.free))) c.requires.1 _ c.min-more.ensures in
-    let e : filled a.self.n (kept a.self.field.anchor a.self.n c.none_if-nb.result cells) ≡ field_take piece a.self.site.margin.least near a.self.n a.self.field a.self.honoring =
+    let e : filled a.self.n (kept a.self.field.anchor a.self.n c.none_if-nb.result cells) ≡ field_take piece a.self.site.margin.least near a.self.n
+    a.self.field a.self.honoring =
     rw c.none_if-nb.ensures (sym (taken a.self.n a.self.field.anchor cells a.self.honoring)) in
     (done.0 ∙ ap length e, c.append.ensures ∙ done.1 ∙ ap (λ (ps : List Point). written (flat ps) a.spots.now) e)

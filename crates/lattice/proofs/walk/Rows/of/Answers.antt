@@ -3,7 +3,7 @@
 use Rattle.std.proofs.Common.{◌≡◌, false, not, ◌||◌, sym, refl, ◌∙◌}
 use Rattle.float.specs.Ops.{◌≤ᶠ◌, 0ᶠ}
 use Rattle.glyphs.specs.Rect.{is_finite}
-use Rattle.lattice.specs.Rows.{no_walk, walked, no_rows}
+use Rattle.lattice.specs.Rows.{no_walk, walked, empty_walk}
 use Rattle.lattice.proofs.walk.Rows.of.Goals as goal
 
 pub returns-then-s : goal.returns-then-s
@@ -20,7 +20,7 @@ returns-then-last-rank c =
     let e = sym c.is_finite.ensures ∙ c.if-not-is_finite.false in
     let sound : (f.lattice.spacing ≤ᶠ 0ᶠ || not (is_finite f.lattice.spacing)) ≡ false = rw (c.if-s.false, e) refl in
     c.none-then-last-rank.ensures
-    ∙ sym (no_rows f sound (rw (← c.row_height-row_h.ensures, ← c.floor_rank-rank.ensures, ← c.ceil_rank-last.ensures) c.if-last-rank.true))
+    ∙ sym (empty_walk f sound (rw (← c.row_height-row_h.ensures, ← c.floor_rank-rank.ensures, ← c.ceil_rank-last.ensures) c.if-last-rank.true))
 
 pub returns : goal.returns
 returns c =

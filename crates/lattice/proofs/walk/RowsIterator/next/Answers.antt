@@ -32,5 +32,6 @@ pub returns-clause-goes : goal.returns-clause-goes
 returns-clause-goes c =
     let s = c.args.self.now in
     let e = row_next s.field s.row_h s.rank s.last s.left c.row_at-row.result c.row_at-row.ensures.cells (omega arith) s.in_order in
-    let fewer : length (some_rows s.field s.row_h (s.rank + 1) (suc s.last - (s.rank + 1)) (s.left - c.row_at-row.result.count)) < length (rows_left s) = omega (arith, ap length e) in
+    let fewer : length (some_rows s.field s.row_h (s.rank + 1) (suc s.last - (s.rank + 1)) (s.left - c.row_at-row.result.count))
+    < length (rows_left s) = omega (arith, ap length e) in
     search rules

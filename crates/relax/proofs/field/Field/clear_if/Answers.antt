@@ -2,7 +2,7 @@
 -- Rests on the contract of `clears_obstacles`, and on the margin's being that of the inset.
 use mathlib.Core.Path.{◌≡◌, ap, ◌∙◌}
 use mathlib.Core.Bool.{Bool, true, false, not}
-use Rattle.glyphs.specs.Rect.{rectangles, clear_of_obstacles}
+use Rattle.glyphs.specs.Rect.{clear_of_obstacles}
 use Rattle.regions.specs.Margins.{least_of_margin}
 use Rattle.relax.proofs.field.Field.clear_if.Goals as goal
 
@@ -13,5 +13,5 @@ twice-not false h = h
 pub returns-then-honoring : goal.returns-then-honoring
 returns-then-honoring c =
     let a = c.args in
-    let e = ap (clear_of_obstacles a.place.x a.place.y (rectangles a.self.now.obstacles.now)) (least_of_margin _ _ a.self.now.inset_margin) in
+    let e = ap (clear_of_obstacles a.place.x a.place.y a.self.now.obstacles.now) (least_of_margin _ _ a.self.now.inset_margin) in
     rw c.if-honoring.true (twice-not _ (c.clears_obstacles.ensures ∙ e))

@@ -9,10 +9,10 @@ pub returns-then-squared_distance-self : goal.returns-then-squared_distance-self
 returns-then-squared_distance-self c =
     let a = c.args in
     let e = c.squared_distance.ensures in
-    c.if-squared_distance-self.true ∙ sym (far_keeps a.self a.p a.q (rw (← e) c.if-squared_distance-self.true))
+    c.if-squared_distance-self.true ∙ sym (far_keeps a.self.now a.p a.q (rw (← e) c.if-squared_distance-self.true))
 
 pub returns-else-squared_distance-self : goal.returns-else-squared_distance-self
 returns-else-squared_distance-self c =
     let a = c.args in
     let e = c.squared_distance.ensures in
-    ap not c.neighbours.ensures ∙ sym (near_keeps a.self a.p a.q (rw (← e) c.if-squared_distance-self.false))
+    ap not c.neighbours.ensures ∙ sym (near_keeps a.self.now a.p a.q (rw (← e) c.if-squared_distance-self.false))

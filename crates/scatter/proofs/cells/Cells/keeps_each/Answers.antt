@@ -46,7 +46,7 @@ pub returns : goal.returns
 returns c =
     let s = c.args.spots.now in
     let n = length s / 2 in
-    let f = keeps c.args.self c.args.p in
+    let f = keeps c.args.self.now c.args.p in
     each f s n refl c.all.result
     (cases_from_all _ _ c.all.result (λ (k : ℕ). f (spot_at s k) ≡ true) (λ (k : ℕ). f (spot_at s k) ≡ false) c.all.ensures.ran
     (YieldsList-from_range 0 n n refl (rw sub-zero)) (λ x q k. search (rules, tests)) (λ x q k. search (rules, tests)))

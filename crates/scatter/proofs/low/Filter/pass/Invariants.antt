@@ -6,9 +6,9 @@ use Prim.Native.Nat.{◌≤◌, ◌-◌}
 use lib.ListN.{length, take}
 use Rattle.glyphs.specs.declared.rect.Point.{Point}
 use Rattle.glyphs.specs.Spots.{spots_of}
+use Rattle.lattice.specs.Flat.{Puts}
 use Rattle.scatter.specs.LowDiscrepancy.{budget}
 use Rattle.scatter.specs.Passes.{pass_at}
-use Rattle.scatter.specs.Placed.{Fills}
 use Rattle.scatter.proofs.low.Filter.pass.Given as goal
 
 abbrev pub invariant-loop-index : goal.invariant-loop-index
@@ -17,6 +17,6 @@ invariant-loop-index l =
     × (l.index-end ≡ budget l.self.site.n)
     × (length l.spots ≡ length l.initial.spots)
     × (ps : List Point)
-    × Fills ps l.placed l.spots l.initial.spots
+    × Puts ps l.placed l.spots l.initial.spots
     × (pass_at l.self.site l.self.anchor l.honor (budget l.self.site.n - l.index) l.index ps
     ≡ pass_at l.self.site l.self.anchor l.honor (budget l.self.site.n) 0 (take l.start (spots_of l.initial.spots)))
