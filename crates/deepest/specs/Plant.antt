@@ -37,13 +37,15 @@ pub record Seeded (w : Waiting) (grid : Grid) (w' : Waiting) : Type 0 where
   pub planted : Planted w.halves.now w'.cells.now w'.len grid
   pub halves : w'.halves.now ≡ w.halves.now
   pub long : length w'.cells.now ≡ length w.cells.now
+  pub same : w'.cells.ghost_name ≡ w.cells.ghost_name
   pub entered : w'.entered ≡ w'.len
 
--- the grid has more cells than there is room for; what was lent is as long as before
+-- the grid has more cells than there is room for; what was lent is the same slice and as long as before
 pub record Crowded (w : Waiting) (grid : Grid) (w' : Waiting) : Type 0 where
   pub full : grid ≡ over
   pub halves : w'.halves.now ≡ w.halves.now
   pub long : length w'.cells.now ≡ length w.cells.now
+  pub same : w'.cells.ghost_name ≡ w.cells.ghost_name
 
 -- what `seed` answers
 abbrev pub Seeds : Waiting → Grid → Result Unit NoRoom → Waiting → Type 0

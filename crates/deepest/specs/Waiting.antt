@@ -1,4 +1,4 @@
--- What becomes of the cells that wait as one enters or leaves. Definitions only.
+-- What becomes of the cells that wait as one enters or leaves: they stay in the slice that was lent. Definitions only.
 use Rattle.std.specs.Prelude.{◌≡◌, ℕ, ◌+◌, List, Option, Some, None, Float}
 use Rattle.deepest.specs.Queue.{Pushed, Popped}
 use Rattle.regions.specs.Ring.{Piece}
@@ -20,6 +20,7 @@ pub record Enters (w : Waiting) (x y d : Float) (halvings : ℕ) (w' : Waiting) 
   pub halves : w'.halves.now ≡ w.halves.now
   pub len : w'.len ≡ w.len + 1
   pub entered : w'.entered ≡ w.entered + 1
+  pub same : w'.cells.ghost_name ≡ w.cells.ghost_name
 
 -- the cell c leaves
 pub record Left (w : Waiting) (c : Cell) (w' : Waiting) : Type 0 where
@@ -27,6 +28,7 @@ pub record Left (w : Waiting) (c : Cell) (w' : Waiting) : Type 0 where
   pub halves : w'.halves.now ≡ w.halves.now
   pub len : w.len ≡ w'.len + 1
   pub entered : w'.entered ≡ w.entered
+  pub same : w'.cells.ghost_name ≡ w.cells.ghost_name
 
 -- the first leaves, if any waits
 abbrev pub Leaves : Waiting → Option Cell → Waiting → Type 0
@@ -39,3 +41,4 @@ pub record Quarters (piece : Piece) (w : Waiting) (c : Cell) (w' : Waiting) : Ty
   pub halves : w'.halves.now ≡ w.halves.now
   pub len : w'.len ≡ w.len + 4
   pub entered : w'.entered ≡ w.entered + 4
+  pub same : w'.cells.ghost_name ≡ w.cells.ghost_name

@@ -5,7 +5,6 @@ ghost use Rattle.std.specs.Prelude.{◌≡◌, ℕ, ◌+◌, ◌*◌, ◌<◌, �
 ghost use Rattle.deepest.specs.Order.{half_at, bound_of, lower_than, leaves};
 ghost use Rattle.deepest.specs.Cells.{cell_at, put_cell, Tagged, Sound};
 ghost use Rattle.deepest.specs.Heap.{First};
-ghost use Rattle.deepest.specs.Queue.{Queue, Pushed, Popped};
 
 #[derive(Clone, Copy)]
 pub struct Cell {
@@ -20,10 +19,7 @@ pub struct Cell {
 pub fn half(halves: &[f64], k: u64) -> f64
     ensures { result ≡ half_at halves.now k }
 {
-    match halves.get(k as usize) {
-        Some(half) => *half,
-        None => f64::NAN,
-    }
+    halves.get(k as usize).copied().unwrap_or(f64::NAN)
 }
 
 // An upper bound of the clearance within a cell.
@@ -43,7 +39,7 @@ fn lower(a: f64, b: f64) -> bool
 
 // Whether cell `a` leaves before cell `b`.
 #[tactic(auto, unfolding(crate::specs::Order::leaves, crate::specs::Order::sooner))]
-fn before(halves: &[f64], a: Cell, b: Cell) -> bool
+pub(crate) fn before(halves: &[f64], a: Cell, b: Cell) -> bool
     ensures { result ≡ leaves halves.now a b }
 {
     let u = bound(halves, a);
@@ -52,7 +48,7 @@ fn before(halves: &[f64], a: Cell, b: Cell) -> bool
 }
 
 #[tactic(auto, unfolding(crate::specs::Cells::cell_at))]
-fn get(cells: &[f64], k: usize) -> Cell
+pub(crate) fn get(cells: &[f64], k: usize) -> Cell
     requires { (k * 5 + 4 < length cells.now) × Sound cells.now k }
     ensures { result ≡ cell_at cells.now k }
 {
@@ -68,7 +64,7 @@ fn get(cells: &[f64], k: usize) -> Cell
     }
 }
 
-fn put(cells: &mut [f64], k: usize, c: Cell)
+pub(crate) fn put(cells: &mut [f64], k: usize, c: Cell)
     requires { (k * 5 + 4 < length cells.old) × Tagged c }
     ensures { cells.new ≡ put_cell cells.old k c }
 {
@@ -80,27 +76,9 @@ fn put(cells: &mut [f64], k: usize, c: Cell)
     cells[a + 4] = f64::from_bits(c.entry);
 }
 
-// Puts a cell among the `m` that wait. The place is halved on its way up, so no `for` counts it.
-pub fn push(cells: &mut [f64], m: usize, halves: &[f64], c: Cell)
-    requires { Queue halves.now cells.old m × (m * 5 + 4 < length cells.old) × Tagged c }
-    ensures { Pushed halves.now cells.old m c cells.new }
-{
-    let mut i = m;
-    while 0 < i {
-        let p = (i - 1) / 2;
-        let e = get(&cells[..], p);
-        if !before(halves, c, e) {
-            put(&mut cells[..], i, c);
-            return;
-        }
-        put(&mut cells[..], i, e);
-        i = p;
-    }
-    put(&mut cells[..], 0, c);
-}
-
-// The child of place `i` that leaves first, of the `n` places, among which it has a child.
-fn first_child(cells: &[f64], n: usize, halves: &[f64], i: usize) -> usize
+// The child of place `i` that leaves first, of the `n` places, among which it has a child. It takes slice, count and table
+// apart from `Waiting`, whose heap does not hold while a cell is on its way down.
+pub(crate) fn first_child(cells: &[f64], n: usize, halves: &[f64], i: usize) -> usize
     requires { (i * 2 + 1 < n) × (n * 5 ≤ length cells.now) × ((k : ℕ) → k < n → (k ≢ i) → Sound cells.now k) }
     ensures { First halves.now (cell_at cells.now) n i result }
 {
@@ -114,30 +92,4 @@ fn first_child(cells: &[f64], n: usize, halves: &[f64], i: usize) -> usize
         }
     }
     k
-}
-
-// Takes out the cell that leaves first of the `m` that wait. The place is doubled on its way down.
-pub fn pop(cells: &mut [f64], m: usize, halves: &[f64]) -> Cell
-    requires { Queue halves.now cells.old m × (0 < m) }
-    ensures { Popped halves.now cells.old m result cells.new }
-{
-    let first = get(&cells[..], 0);
-    let n = m - 1;
-    if n < 1 {
-        return first;
-    }
-    let c = get(&cells[..], n);
-    let mut i = 0;
-    while i * 2 + 1 < n {
-        let k = first_child(&cells[..], n, halves, i);
-        let e = get(&cells[..], k);
-        if !before(halves, e, c) {
-            put(&mut cells[..], i, c);
-            return first;
-        }
-        put(&mut cells[..], i, e);
-        i = k;
-    }
-    put(&mut cells[..], i, c);
-    first
 }

@@ -16,8 +16,8 @@ use regions::clearance::signed_clearance;
 use regions::four::{Four, four_clearances};
 use regions::piece::RegionPiece;
 
-// A deepest point with its clearance, or none; or more cells waited than there is room for. It is an enum of its own since
-// the outcomes are three.
+// A deepest point with its clearance, or none; or more cells waited than there is room for. The project names this
+// form.
 #[derive(Clone, Copy)]
 pub enum Deepest {
     Found(f64, f64, f64),

@@ -1,7 +1,7 @@
 // The cells that wait: a heap in the first `len` places of a lent slice, with how many have entered so far.
 ghost use Rattle.deepest.specs.Queue.{Queue};
 
-use crate::queue::{Cell, pop, push};
+use crate::queue::{Cell, before, first_child, get, put};
 
 #[derive(Drop)]
 pub struct Waiting<'a> {
@@ -39,7 +39,8 @@ impl<'a> Waiting<'a> {
         self.cells.len() / 5 - self.len
     }
 
-    // Makes a cell and puts it among those that wait.
+    // Makes a cell and puts it among those that wait. Its place is halved on the way up, so no `for` counts it. Meanwhile
+    // the heap does not hold, so the loop has the slice alone.
     pub fn push(&mut self, x: f64, y: f64, d: f64, halvings: u64)
         requires room { self.old.len * 5 + 4 < length self.old.cells.now }
         requires few { halvings < 22 }
@@ -53,12 +54,23 @@ impl<'a> Waiting<'a> {
             halvings,
             entry: self.entered,
         };
-        push(&mut self.cells[..], self.len, self.halves, cell);
+        let cells = &mut self.cells[..];
+        let mut i = self.len;
+        while 0 < i {
+            let p = (i - 1) / 2;
+            let e = get(&cells[..], p);
+            if !before(self.halves, cell, e) {
+                break;
+            }
+            put(&mut cells[..], i, e);
+            i = p;
+        }
+        put(&mut cells[..], i, cell);
         self.len += 1;
         self.entered += 1;
     }
 
-    // Takes out the cell that leaves first.
+    // Takes out the cell that leaves first. The last one takes its place: doubled on the way down, in the slice alone.
     pub fn pop(&mut self) -> Option<Cell>
         ensures { Leaves self.old result self.new }
     {
@@ -66,6 +78,24 @@ impl<'a> Waiting<'a> {
             return None;
         }
         self.len -= 1;
-        Some(pop(&mut self.cells[..], self.len + 1, self.halves))
+        let n = self.len;
+        let cells = &mut self.cells[..];
+        let first = get(&cells[..], 0);
+        if n < 1 {
+            return Some(first);
+        }
+        let c = get(&cells[..], n);
+        let mut i = 0;
+        while i * 2 + 1 < n {
+            let k = first_child(&cells[..], n, self.halves, i);
+            let e = get(&cells[..], k);
+            if !before(self.halves, e, c) {
+                break;
+            }
+            put(&mut cells[..], i, e);
+            i = k;
+        }
+        put(&mut cells[..], i, c);
+        Some(first)
     }
 }

@@ -1,14 +1,12 @@
 -- A turn of the walks over a job's zones, and what is known of a zone where it stands.
 -- Rests on the kit's laws of lists.
 use Rattle.std.proofs.Common.{
-  get_or,
   ◌≡◌,
   ℕ,
   suc,
   ◌+◌,
   ◌-◌,
   ◌*◌,
-  ◌<◌,
   ◌≤◌,
   Bool,
   true,
@@ -29,9 +27,6 @@ use Rattle.std.proofs.Common.{
   length-drop,
   length-take,
   take-add,
-  add-one,
-  drop-cons,
-  drop_of_length-le,
 }
 use mathlib.Core.List.{foldl}
 use lib.Ieee.{Float}
@@ -40,7 +35,7 @@ use Rattle.regions.specs.Ring.{sum}
 use Rattle.deepest.specs.declared.search.Deepest.{Deepest}
 use Rattle.discs.specs.Pieces.{pieces_of, Laid}
 use Rattle.discs.specs.PlaceGlyphs.{is_left_in}
-use Rattle.discs.specs.Floor.{row_is_left_in, cut, past_row, Handed, handed_at, handed_from, handed_work, lowered_by, holds_all, EachRow}
+use Rattle.discs.specs.Floor.{row_is_left_in, cut, Handed, handed_at, handed_from, handed_work, lowered_by, holds_all, Steps}
 use Rattle.discs.specs.Walk.{lowering, holding}
 use Rattle.glyphs.specs.declared.rect.Rectangle.{Rectangle}
 use Rattle.relax.specs.declared.Spreading.{Spreading}
@@ -48,6 +43,7 @@ use Rattle.lattice.specs.declared.context.PackCtx.{PackCtx}
 use Rattle.discs.specs.declared.options.GlyphOptions.{GlyphOptions}
 use Rattle.discs.specs.declared.rows.Offsets.{Offsets}
 use Rattle.discs.specs.declared.rows.Row.{Row}
+use Rattle.discs.specs.declared.rows.ZoneAt.{ZoneAt}
 
 -- ---- one zone
 
@@ -94,65 +90,51 @@ module _ (s rings sizes : List ℕ) (coords : List Float) (quotas : List ℕ) (d
 
 -- ---- all zones
 
--- what is read of a list of rows past its end
-abbrev pub no_row : Row
-no_row = record { key = 0; len = 0; count = 0; pieces = 0 }
+module _ (s rings sizes : List ℕ) (coords : List Float) (quotas : List ℕ) (deepest : List Deepest) where
+  -- the zone of a row, and the zones of these rows
+  abbrev here : ZoneAt → Handed
+  here zone = handed_at s rings sizes coords quotas deepest zone.row zone.at
 
-module _ (s rings sizes : List ℕ) (coords : List Float) (quotas : List ℕ) (deepest : List Deepest) (rows : List Row) (k : ℕ) (at : Offsets) where
-  -- the zone of row k, and the zones of the rows from j on
-  abbrev here : Handed
-  here = handed_at s rings sizes coords quotas deepest (get_or rows k no_row) at
+  abbrev from : List Row → Offsets → List Handed
+  from rows at = handed_from s rings sizes coords quotas deepest rows at
 
-  abbrev from : ℕ → Offsets → List Handed
-  from j at = handed_from s rings sizes coords quotas deepest (drop j rows) at
-
-  abbrev past : Offsets
-  past = past_row rings sizes (get_or rows k no_row) at
-
-  handed_turn : k < length rows → from k at ≡ here ∷ from (k + 1) past
-  unfolding handed_from
-  handed_turn h = rw (add-one k, drop-cons rows k no_row h)
-
-  pub handed_end : length rows ≤ k → handed_work (from k at) ≡ []
+  pub handed_end : (rows : List Row) (at : Offsets) → rows ≡ [] → handed_work (from rows at) ≡ []
   unfolding handed_from handed_work
-  handed_end h = rw (drop_of_length-le rows h)
+  handed_end rows at h = rw h
 
-  pub ceiling_turn :
-      {next : Offsets} {lower : Float} (gap r-hi : Float) → k < length rows
-      → lower ≡ lowering gap r-hi here → next ≡ past
-      → foldl (lowered_by gap) r-hi (handed_work (from k at))
-      ≡ foldl (lowered_by gap) lower (handed_work (from (k + 1) next))
-  ceiling_turn gap r-hi h l n = rw (handed_turn h, l, n) (fold_work gap r-hi here _)
-    where
-      go : (gap r-hi : Float) (b : Bool) (x : Handed) (xs : List Handed)
-          → foldl (lowered_by gap) r-hi (cond b (x ∷ xs) xs) ≡ foldl (lowered_by gap) (cond b (lowered_by gap r-hi x) r-hi) xs
-      go gap r-hi true x xs = refl
-      go gap r-hi false x xs = refl
+  module _ {rows rest : List Row} {at next : Offsets} {zone : ZoneAt} (h : Steps rings sizes rows at zone rest next) where
+    handed_turn : from rows at ≡ here zone ∷ from rest next
+    unfolding handed_from
+    handed_turn = rw (h.first, h.here, h.past)
 
-      fold_work : (gap r-hi : Float) (x : Handed) (xs : List Handed)
-          → foldl (lowered_by gap) r-hi (handed_work (x ∷ xs)) ≡ foldl (lowered_by gap) (lowering gap r-hi x) (handed_work xs)
-      fold_work gap r-hi x xs = unfold handed_work lowering in go gap r-hi (is_left_in x.zone) x (handed_work xs)
+    pub ceiling_turn :
+        {lower : Float} (gap r-hi : Float) → lower ≡ lowering gap r-hi (here zone)
+        → foldl (lowered_by gap) r-hi (handed_work (from rows at)) ≡ foldl (lowered_by gap) lower (handed_work (from rest next))
+    ceiling_turn gap r-hi l = rw (handed_turn, l) (fold_work gap r-hi (here zone) _)
+      where
+        go : (gap r-hi : Float) (b : Bool) (x : Handed) (xs : List Handed)
+            → foldl (lowered_by gap) r-hi (cond b (x ∷ xs) xs) ≡ foldl (lowered_by gap) (cond b (lowered_by gap r-hi x) r-hi) xs
+        go gap r-hi true x xs = refl
+        go gap r-hi false x xs = refl
 
-  all_cond : (p : Handed → Bool) (b : Bool) (x : Handed) (xs : List Handed) → all p (cond b (x ∷ xs) xs) ≡ cond b (p x) true && all p xs
-  unfolding all
-  all_cond p true x xs = refl
-  all_cond p false x xs = refl
+        fold_work : (gap r-hi : Float) (x : Handed) (xs : List Handed)
+            → foldl (lowered_by gap) r-hi (handed_work (x ∷ xs)) ≡ foldl (lowered_by gap) (lowering gap r-hi x) (handed_work xs)
+        fold_work gap r-hi x xs = unfold handed_work lowering in go gap r-hi (is_left_in x.zone) x (handed_work xs)
 
-  pub trial_turn :
-      {holds : Bool} (numbers : Spreading) (options : GlyphOptions) (ctx : PackCtx) (obstacles : List Rectangle) (next : Offsets) → k < length rows
-      → holds ≡ holding numbers options ctx obstacles here → next ≡ past
-      → all (holds_all numbers options ctx obstacles) (handed_work (from k at))
-      ≡ holds && all (holds_all numbers options ctx obstacles) (handed_work (from (k + 1) next))
-  trial_turn numbers options ctx obstacles next h l n =
-      rw (handed_turn h, l, n) (all_work (holds_all numbers options ctx obstacles) here _ ∙ unfold holding in refl)
-    where
-      all_work :
-          (p : Handed → Bool) (x : Handed) (xs : List Handed)
-          → all p (handed_work (x ∷ xs)) ≡ cond (is_left_in x.zone) (p x) true && all p (handed_work xs)
-      all_work p x xs = unfold handed_work in all_cond p (is_left_in x.zone) x (handed_work xs)
+    all_cond : (p : Handed → Bool) (b : Bool) (x : Handed) (xs : List Handed) → all p (cond b (x ∷ xs) xs) ≡ cond b (p x) true && all p xs
+    unfolding all
+    all_cond p true x xs = refl
+    all_cond p false x xs = refl
 
-pub each_turn :
-    (rings sizes : List ℕ) (P : Row → Offsets → Type 0) (rows : List Row) (k : ℕ) (at : Offsets) → k < length rows → EachRow rings sizes P (drop k rows) at
-    → P (get_or rows k no_row) at × EachRow rings sizes P (drop (k + 1) rows) (past_row rings sizes (get_or rows k no_row) at)
-unfolding EachRow
-each_turn rings sizes P rows k at h e = rw (add-one k) (rw (drop-cons rows k no_row h) at e)
+    pub trial_turn :
+        {holds : Bool} (numbers : Spreading) (options : GlyphOptions) (ctx : PackCtx) (obstacles : List Rectangle)
+        → holds ≡ holding numbers options ctx obstacles (here zone)
+        → all (holds_all numbers options ctx obstacles) (handed_work (from rows at))
+        ≡ holds && all (holds_all numbers options ctx obstacles) (handed_work (from rest next))
+    trial_turn numbers options ctx obstacles l =
+        rw (handed_turn, l) (all_work (holds_all numbers options ctx obstacles) (here zone) _ ∙ unfold holding in refl)
+      where
+        all_work :
+            (p : Handed → Bool) (x : Handed) (xs : List Handed)
+            → all p (handed_work (x ∷ xs)) ≡ cond (is_left_in x.zone) (p x) true && all p (handed_work xs)
+        all_work p x xs = unfold handed_work in all_cond p (is_left_in x.zone) x (handed_work xs)

@@ -21,6 +21,7 @@ use Rattle.discs.specs.Pieces.{pieces_of, deepests_of, pack_pieces_from, Laid, l
 use Rattle.discs.specs.declared.options.GlyphOptions.{GlyphOptions}
 use Rattle.discs.specs.declared.rows.Offsets.{Offsets}
 use Rattle.discs.specs.declared.rows.Row.{Row}
+use Rattle.discs.specs.declared.rows.ZoneAt.{ZoneAt}
 
 -- ---- rows
 
@@ -105,6 +106,12 @@ unfoldable pub EachRow : List ℕ → List ℕ → (Row → Offsets → Type 0) 
 EachRow rings sizes P [] at = Unit {0}
 EachRow rings sizes P (row ∷ rows) at = P row at × EachRow rings sizes P rows (past_row rings sizes row at)
 
+-- one zone of a walk: the first of the rows left, and where it starts; the others are left, from where the zone after it starts
+pub record Steps (rings sizes : List ℕ) (rows : List Row) (at : Offsets) (zone : ZoneAt) (rest : List Row) (next : Offsets) : Type 0 where
+  pub first : rows ≡ zone.row ∷ rest
+  pub here : at ≡ zone.at
+  pub past : next ≡ past_row rings sizes zone.row zone.at
+
 -- a zone's pieces lie within the slices
 pub record Within (rings sizes : List ℕ) (coords : List Float) (row : Row) (at : Offsets) : Type 0 where
   pub pieces : at.piece + row.pieces ≤ length rings
@@ -130,6 +137,14 @@ pub record Packable (s rings sizes : List ℕ) (coords : List Float) (quotas : L
 
 abbrev pub Floor : List ℕ → List Row → List ℕ → List ℕ → List Float → List ℕ → List Deepest → Type 0
 Floor s rows rings sizes coords quotas deepest = EachRow rings sizes (Packable s rings sizes coords quotas deepest) rows start
+
+within_prop : (rings sizes : List ℕ) (coords : List Float) (row : Row) (at : Offsets) → IsProp (Within rings sizes coords row at)
+within_prop rings sizes coords row at a b = λ i. record {
+  pieces = le_prop a.pieces b.pieces i;
+  ring = le_prop a.ring b.ring i;
+  coord = le_prop a.coord b.coord i;
+  laid = laid_prop (cut at.piece row.pieces rings) (drop at.ring sizes) (drop at.coord coords) a.laid b.laid i;
+}
 
 stands_prop :
     (rings sizes : List ℕ) (coords : List Float) (deepest : List Deepest) (row : Row) (at : Offsets)
@@ -159,6 +174,11 @@ each_prop :
 unfolding EachRow
 each_prop rings sizes P p [] at a b = λ i. tt
 each_prop rings sizes P p (row ∷ rows) at a b = λ i. (p row at a.0 b.0 i, each_prop rings sizes P p rows (past_row rings sizes row at) a.1 b.1 i)
+
+pub rows_within_prop :
+    (rings sizes : List ℕ) (coords : List Float) (rows : List Row) (at : Offsets)
+    → IsProp (EachRow rings sizes (Within rings sizes coords) rows at)
+rows_within_prop rings sizes coords = each_prop rings sizes (Within rings sizes coords) (within_prop rings sizes coords)
 
 pub floor_prop :
     (s : List ℕ) (rows : List Row) (rings sizes : List ℕ) (coords : List Float) (quotas : List ℕ) (deepest : List Deepest)

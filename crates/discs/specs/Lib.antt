@@ -10,3 +10,4 @@ pub mod Floor
 pub mod Bundles
 pub mod Walk
 pub mod FloorLaws
+pub mod ZoneWalk

@@ -1,10 +1,11 @@
 // What the packings of a call share, and what is lent to them.
 ghost use Rattle.std.specs.Prelude.{◌≤◌, length};
 ghost use Rattle.discs.specs.Floor.{Floor, floor_prop};
+ghost use Rattle.discs.specs.ZoneWalk.{WalksOver};
 
 use crate::options::GlyphOptions;
 use crate::pieces::Pieces;
-use crate::rows::Row;
+use crate::rows::{Row, Walk};
 use deepest::search::Deepest;
 use glyphs::rect::Rectangle;
 use regions::piece::RegionPiece;
@@ -21,6 +22,15 @@ pub struct Zones<'a> {
     pub quotas: &'a [usize],
     pub deepest: &'a [Deepest],
     pub ghost floor: { Floor bytes.now rows.now rings.now sizes.now coords.now quotas.now deepest.now } by { floor_prop _ _ _ _ _ _ _ },
+}
+
+impl<'a> Zones<'a> {
+    // The zones, one by one.
+    pub fn walk(self) -> Walk<'a>
+        ensures { WalksOver self.entry.rings.now self.entry.sizes.now self.entry.rows.now result }
+    {
+        Walk::over(self.rows, self.rings, self.sizes, self.coords)
+    }
 }
 
 // A zone's key, and its pieces with the quota and the deepest point of each.

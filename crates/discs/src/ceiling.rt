@@ -7,7 +7,7 @@ ghost use Rattle.discs.specs.Floor.{row_is_left_in, work_in, deepest_in, handed_
 
 use crate::piece::deepest_from;
 use crate::pieces::Pieces;
-use crate::rows::{Offsets, Row, is_left_in, past_row, pieces_at};
+use crate::rows::{Row, Walk, is_left_in, pieces_at};
 use deepest::search::{Deepest, deeper};
 use glyphs::rect::is_finite;
 use regions::area::piece_area;
@@ -83,13 +83,11 @@ pub fn analytic_r_hi(
     ensures { (s quotas : List ℕ) → result ≡ handed_r_hi (work_in s rows.now rings.now sizes.now coords.now quotas deepest.now) gap }
 {
     let mut r_hi = 1.0 / 0.0;
-    let mut at = Offsets::START;
-    for row in rows {
-        let p = at.piece;
-        let q = p + row.pieces;
-        let pieces = pieces_at(rings, sizes, coords, *row, at);
-        r_hi = lowered_by(gap, r_hi, *row, pieces, &deepest[p..q]);
-        at = past_row(rings, sizes, coords, *row, at);
+    for zone in Walk::over(rows, rings, sizes, coords) {
+        let p = zone.at.piece;
+        let q = p + zone.row.pieces;
+        let pieces = pieces_at(rings, sizes, coords, zone);
+        r_hi = lowered_by(gap, r_hi, zone.row, pieces, &deepest[p..q]);
     }
     if_positive(r_hi)
 }

@@ -7,7 +7,7 @@ ghost use Rattle.discs.specs.Walk.{holding};
 use crate::bundle::{Packing, Work, Zones};
 use crate::options::GlyphOptions;
 use crate::region::pack_region;
-use crate::rows::{Offsets, Row, is_left_in, past_row};
+use crate::rows::{ZoneAt, is_left_in};
 use crate::zone::region_at;
 use glyphs::mode::PackMode;
 use lattice::context::PackCtx;
@@ -42,23 +42,22 @@ fn holds(
     packing: Packing<'_>,
     ctx: PackCtx,
     zones: Zones<'_>,
-    row: Row,
-    at: Offsets,
+    zone: ZoneAt,
     work: &mut Work<'_>,
 ) -> bool
-    requires packable { IsPackable zones row at }
+    requires packable { IsPackable zones zone.row zone.at }
     requires near { length packing.obstacles.now ≤ length work.old.lent.near.now }
     requires trial { ctx.mode.spread ≡ false }
     requires strict { ctx.mode.strict_obstacles ≡ true }
-    ensures held { result ≡ holding packing.entry.numbers packing.entry.options ctx packing.entry.obstacles.now (zone_at zones.entry row at) }
+    ensures held { result ≡ holding packing.entry.numbers packing.entry.options ctx packing.entry.obstacles.now (zone_at zones.entry zone.row zone.at) }
     ensures same { SameWork work.old work.new }
 {
-    if !is_left_in(row) {
+    if !is_left_in(zone.row) {
         return true;
     }
-    let region = region_at(zones, row, at);
+    let region = region_at(zones, zone);
     let placed = pack_region(packing, ctx, region, &mut work.lent, &mut work.spots[..]);
-    placed == row.count
+    placed == zone.row.count
 }
 
 // Whether every zone left in holds its marks at the radius `r`.
@@ -68,12 +67,10 @@ pub fn feasible(r: f64, packing: Packing<'_>, zones: Zones<'_>, work: &mut Work<
     ensures same { SameWork work.old work.new }
 {
     let ctx = context_at(packing.options, PackMode::PROBE, r);
-    let mut at = Offsets::START;
-    for row in zones.rows {
-        if !holds(packing, ctx, zones, *row, at, work) {
+    for zone in zones.walk() {
+        if !holds(packing, ctx, zones, zone, work) {
             return false;
         }
-        at = past_row(zones.rings, zones.sizes, zones.coords, *row, at);
     }
     true
 }

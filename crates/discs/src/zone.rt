@@ -5,23 +5,24 @@ ghost use Rattle.discs.specs.Slices.{pieces_left};
 ghost use Rattle.discs.specs.Bundles.{zone_at, IsPackable};
 
 use crate::bundle::{Region, Zones};
-use crate::rows::{Offsets, Row, pieces_at};
+use crate::rows::{ZoneAt, pieces_at};
 
 // The key of a zone, and its pieces with their quotas and deepest points.
-pub fn region_at<'a>(zones: Zones<'a>, row: Row, at: Offsets) -> Region<'a>
-    requires { IsPackable zones row at }
-    ensures key { result.key.now ≡ (zone_at zones.entry row at).zone.key }
-    ensures pieces { pieces_left result.pieces ≡ (zone_at zones.entry row at).zone.pieces }
-    ensures quotas { result.quotas.now ≡ (zone_at zones.entry row at).quotas }
-    ensures deepest { deepests_of result.deepest.now ≡ (zone_at zones.entry row at).deepests }
+pub fn region_at<'a>(zones: Zones<'a>, zone: ZoneAt) -> Region<'a>
+    requires { IsPackable zones zone.row zone.at }
+    ensures key { result.key.now ≡ (zone_at zones.entry zone.row zone.at).zone.key }
+    ensures pieces { pieces_left result.pieces ≡ (zone_at zones.entry zone.row zone.at).zone.pieces }
+    ensures quotas { result.quotas.now ≡ (zone_at zones.entry zone.row zone.at).quotas }
+    ensures deepest { deepests_of result.deepest.now ≡ (zone_at zones.entry zone.row zone.at).deepests }
 {
+    let ZoneAt { row, at } = zone;
     let key = row.key;
     let end = key + row.len;
     let p = at.piece;
     let q = p + row.pieces;
     Region {
         key: &zones.bytes[key..end],
-        pieces: pieces_at(zones.rings, zones.sizes, zones.coords, row, at),
+        pieces: pieces_at(zones.rings, zones.sizes, zones.coords, zone),
         quotas: &zones.quotas[p..q],
         deepest: &zones.deepest[p..q],
     }

@@ -1,11 +1,8 @@
-//! Functions on `f64`, and products of `u64`, whose every bit is fixed. Each of the former is equal to the definition of
-//! its name in specs/.
+//! Functions on `f64` whose every bit is fixed: each is equal to the definition of its name in specs/.
 #![tactic(auto)]
 
 // Products of `u64` in full.
 mod wide;
-
-pub use wide::wrapping_mul;
 
 // The square root.
 mod roots;

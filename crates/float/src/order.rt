@@ -1,5 +1,5 @@
 // `f64`'s abs, min, max and clamp, and a change of sign. The kit's `min` and `max` leave open which of 0 and -0 they give,
-// and its `clamp` asks for bounds in order.
+// its `clamp` asks for bounds in order, and its `abs` tests twice.
 ghost use Rattle.std.specs.Prelude.{◌≡◌, ◌^◌, if◌then◌else◌};
 ghost use Rattle.std.specs.Float.Ieee.{neg};
 ghost use Rattle.float.specs.Order.{abs, min, max, clamp};
@@ -30,7 +30,7 @@ pub fn negate_unless(x: f64, keep: bool) -> f64
         x
     } else {
         let bits = f64::to_bits(x);
-        f64::from_bits(std::num::wrapping_add_u64(bits, sign_bit(keep)))
+        f64::from_bits(bits.wrapping_add(sign_bit(keep)))
     }
 }
 

@@ -1,16 +1,18 @@
-// The IEEE 754 square root without the machine's own: a guess in floats, tested exactly in whole numbers, and
-// the digits found one at a time where the test fails.
+// The IEEE 754 square root without the machine's own, which the kit's `f64::sqrt` is, and on whose word its values stand: here
+// each is proved. A guess in floats is tested exactly in whole numbers, and the digits are found one at a time where the test
+// fails.
 ghost use Rattle.std.specs.Prelude.{◌≡◌, ◌+◌, ◌-◌, ◌*◌, ◌^◌, ◌<◌, ◌≤◌, T, from_bits, map};
 ghost use Rattle.std.specs.Float.{binary64};
 ghost use Rattle.float.specs.Root.{Near, nearest_root, root_of};
 ghost use Rattle.float.specs.Order.{sqrt, hypot};
 ghost use Rattle.float.specs.Laws.Pattern.{Normal};
 
-use crate::wide::{high_mul, wrapping_mul};
+use crate::wide::high_mul;
 
 // The whole number nearest to √(m * 2^52), digit by digit. With y for m * 2^52, at each turn q is the root's
 // digits down to the bit `bit`, and what is left of y is y - q * q, kept as `rest` * `bit`. A turn tries the
-// next bit: (q + bit)^2 is q^2 + (2q + bit) * bit. `bit` is halved, so no `for` counts it.
+// next bit: (q + bit)^2 is q^2 + (2q + bit) * bit. `bit` is what a turn is about, and a count
+// of the 52 turns beside it would say nothing.
 fn digit_root(m: u64) -> u64
     requires low { 2 ^ 52 ≤ m }
     requires high { m < 2 ^ 54 }
@@ -62,7 +64,7 @@ fn is_nearest(m: u64, r: u64) -> bool
 {
     let top = m + 2;
     let high = high_mul(r, r);
-    let low = wrapping_mul(r, r);
+    let low = r.wrapping_mul(r);
     let lower = top % 0x1000 * 0x10_0000_0000_0000;
     let rest = std::num::wrapping_sub_u64(lower, low);
     if high + (lower < low) as u64 != top / 0x1000 {

@@ -1,5 +1,6 @@
 // `f64`'s floor and ceil, and the casts to integers, saturating and 0 for a NaN. Range tests stand before each
-// cut, so that nothing is asked of the value.
+// cut, so that nothing is asked of the value. The kit has them too, in
+// other words: the laws here and in rounding are of these definitions.
 ghost use Rattle.std.specs.Prelude.{◌≡◌, false, T, pos};
 ghost use Rattle.std.specs.Float.{fin};
 ghost use Rattle.std.specs.Float.Ieee.{lt};

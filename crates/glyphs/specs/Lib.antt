@@ -6,5 +6,6 @@ pub mod Hash
 pub mod Points
 pub mod Quotas
 pub mod Rect
+pub mod Rects
 pub mod Spots
 pub mod Stream

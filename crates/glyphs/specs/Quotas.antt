@@ -148,7 +148,7 @@ quota_of n sum left weights i = cond (no_weight sum) (first_only n i) (quota_at 
 unfoldable pub left_over : ℕ → Float → List Float → ℕ
 left_over n sum weights = n - assigned (base n sum weights)
 
--- ---- as the loops go
+-- ---- as the code goes
 abbrev pub spend : ℕ → Float → ℕ → Float → ℕ
 spend n sum left w = left - whole_share n sum w
 

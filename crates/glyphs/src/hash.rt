@@ -2,12 +2,10 @@
 ghost use Rattle.std.specs.Prelude.{◌≡◌};
 ghost use Rattle.glyphs.specs.Hash.{fnv1a, mix_byte};
 
-use float::wrapping_mul;
-
 fn mix_byte(hash: u64, b: u8) -> u64
     ensures { result ≡ mix_byte hash b }
 {
-    wrapping_mul(hash ^ (b as u64), 0x100_0000_01b3)
+    (hash ^ (b as u64)).wrapping_mul(0x100_0000_01b3)
 }
 
 pub fn fnv1a(bytes: &[u8]) -> u64

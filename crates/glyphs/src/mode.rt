@@ -1,6 +1,6 @@
 // glyphs.rs, `PackMode`.
 
-// How a pack treats spacing and obstacles.
+// How a pack treats spacing and obstacles, as the source has it.
 #[derive(Clone, Copy)]
 pub struct PackMode {
     // Spread the marks across the piece once they all fit.

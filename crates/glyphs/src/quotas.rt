@@ -11,11 +11,7 @@ ghost use Rattle.glyphs.specs.Quotas.{quota_of, left_over};
 fn total(weights: &[f64]) -> f64
     ensures { result ≡ total weights.now }
 {
-    let mut sum = -0.0;
-    for weight in weights {
-        sum = sum + *weight;
-    }
-    sum
+    weights.iter().sum()
 }
 
 fn no_weight(total: f64) -> bool
@@ -27,84 +23,82 @@ fn no_weight(total: f64) -> bool
     total <= 0.0
 }
 
-fn share(n: u64, total: f64, w: f64) -> f64
-    requires { n ≤ 2 ^ 53 }
-    ensures { result ≡ share n total w }
-{
-    (n as f64) * float::max(w / total, 0.0)
+// A count that is shared out by weights, with their total. The count is exact as a float.
+#[derive(Clone, Copy)]
+struct Shares<'a> {
+    n: u64,
+    total: f64,
+    weights: &'a [f64],
+    ghost exact: { n ≤ 2 ^ 53 },
 }
 
-fn whole_share(n: u64, total: f64, w: f64) -> u64
-    requires { n ≤ 2 ^ 53 }
-    ensures { result ≡ whole_share n total w }
-{
-    float::as_usize(float::floor(share(n, total, w))) as u64
-}
-
-// The remainder's key in the total order.
-fn remainder_key(n: u64, total: f64, w: f64) -> u64
-    requires { n ≤ 2 ^ 53 }
-    ensures { result ≡ total_key (remainder n total w) }
-{
-    let s = share(n, total, w);
-    float::total_key(s - float::floor(s))
-}
-
-// Whether index j comes before index i. The source's order has a place for NaN, so keys are compared and not floats.
-fn before(n: u64, total: f64, weights: &[f64], j: usize, i: usize) -> bool
-    requires exact { n ≤ 2 ^ 53 }
-    requires inside_j { j < length weights.now }
-    requires inside_i { i < length weights.now }
-    ensures { result ≡ is_lt (by_remainder (rems n total weights.now) j i) }
-{
-    let a = remainder_key(n, total, weights[i]);
-    let b = remainder_key(n, total, weights[j]);
-    if a != b {
-        return a < b;
+impl<'a> Shares<'a> {
+    fn share(&self, w: f64) -> f64
+        ensures { result ≡ share self.now.n self.now.total w }
+    {
+        (self.n as f64) * float::max(w / self.total, 0.0)
     }
-    j < i
-}
 
-// How many indices come before index i.
-fn rank_of(n: u64, total: f64, weights: &[f64], i: usize) -> u64
-    requires exact { n ≤ 2 ^ 53 }
-    requires inside { i < length weights.now }
-    ensures { result ≡ rank (by_remainder (rems n total weights.now)) i (up_to (length weights.now)) }
-{
-    let mut rank = 0;
-    for j in 0..weights.len() {
-        rank += before(n, total, weights, j, i) as u64;
+    fn whole_share(&self, w: f64) -> u64
+        ensures { result ≡ whole_share self.now.n self.now.total w }
+    {
+        float::as_usize(float::floor(self.share(w))) as u64
     }
-    rank
-}
 
-// What the floors leave of n.
-fn left_over(n: u64, total: f64, weights: &[f64]) -> u64
-    requires { n ≤ 2 ^ 53 }
-    ensures { result ≡ left_over n total weights.now }
-{
-    let mut left = n;
-    for weight in weights {
-        left = left.saturating_sub(whole_share(n, total, *weight));
+    // The remainder's key in the total order.
+    fn remainder_key(&self, w: f64) -> u64
+        ensures { result ≡ total_key (remainder self.now.n self.now.total w) }
+    {
+        let s = self.share(w);
+        float::total_key(s - float::floor(s))
     }
-    left
-}
 
-// The quota of piece i.
-fn quota_of(n: u64, total: f64, left: u64, weights: &[f64], i: usize) -> u64
-    requires exact { n ≤ 2 ^ 53 }
-    requires inside { i < length weights.now }
-    requires left_over { left ≡ left_over n total weights.now }
-    ensures { result ≡ quota_of n total left weights.now i }
-{
-    if no_weight(total) {
-        return if i == 0 { n } else { 0 };
+    // Whether index j comes before index i. The source's order has a place for NaN, so keys are compared and not floats.
+    fn before(&self, j: usize, i: usize) -> bool
+        requires inside_j { j < length self.now.weights.now }
+        requires inside_i { i < length self.now.weights.now }
+        ensures { result ≡ is_lt (by_remainder (rems self.now.n self.now.total self.now.weights.now) j i) }
+    {
+        let a = self.remainder_key(self.weights[i]);
+        let b = self.remainder_key(self.weights[j]);
+        (a, j) < (b, i)
     }
-    let whole = whole_share(n, total, weights[i]);
-    if rank_of(n, total, weights, i) < left {
-        return whole + 1;
+
+    // How many indices come before index i.
+    fn rank_of(&self, i: usize) -> u64
+        requires { i < length self.now.weights.now }
+        ensures { result ≡ rank (by_remainder (rems self.now.n self.now.total self.now.weights.now)) i (up_to (length self.now.weights.now)) }
+    {
+        (0..self.weights.len())
+            .filter(|j| self.before(*j, i))
+            .count() as u64
     }
-    whole
+
+    // What the floors leave of n.
+    fn left_over(&self) -> u64
+        ensures { result ≡ left_over self.now.n self.now.total self.now.weights.now }
+    {
+        self.weights.iter().fold(
+            self.n,
+            |left, weight| left.saturating_sub(self.whole_share(*weight)),
+        )
+    }
+
+    // The quota of piece i.
+    fn quota_of(&self, left: u64, i: usize) -> u64
+        requires inside { i < length self.now.weights.now }
+        requires left_over { left ≡ left_over self.now.n self.now.total self.now.weights.now }
+        ensures { result ≡ quota_of self.now.n self.now.total left self.now.weights.now i }
+    {
+        if no_weight(self.total) {
+            return if i == 0 { self.n } else { 0 };
+        }
+        let whole = self.whole_share(self.weights[i]);
+        if self.rank_of(i) < left {
+            return whole + 1;
+        }
+        whole
+    }
 }
 
 pub fn apportion(n: u64, weights: &[f64], quotas: &mut [u64])
@@ -112,9 +106,13 @@ pub fn apportion(n: u64, weights: &[f64], quotas: &mut [u64])
     requires room { length weights.now ≤ length quotas.old }
     ensures { quotas.new ≡ written (apportion n weights.now) quotas.old }
 {
-    let sum = total(weights);
-    let left = left_over(n, sum, weights);
+    let shares = Shares {
+        n,
+        total: total(weights),
+        weights,
+    };
+    let left = shares.left_over();
     for i in 0..weights.len() {
-        quotas[i] = quota_of(n, sum, left, weights, i);
+        quotas[i] = shares.quota_of(left, i);
     }
 }

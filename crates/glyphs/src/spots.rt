@@ -69,16 +69,14 @@ pub fn apart_from_all(x: f64, y: f64, least: f64, spots: &[f64]) -> bool
     ensures { result ≡ all (apart x y least) (spots_of spots.now) }
 {
     let n = spots.len() / 2;
-    let mut k = 0;
-    // In blocks: a `for` with a step would have to say first where the last one ends.
-    while n - k >= 32 {
-        if !apart_from_eight(x, y, least, spots, k) {
+    let blocks = n.saturating_sub(24) / 8;
+    for block in 0..blocks {
+        if !apart_from_eight(x, y, least, spots, block * 8) {
             return false;
         }
-        k += 8;
     }
     let mut ok = true;
-    for i in k..n {
+    for i in blocks * 8..n {
         ok = ok & apart(x, y, least, spot(spots, i));
     }
     ok

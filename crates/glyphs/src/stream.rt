@@ -2,8 +2,6 @@
 ghost use Rattle.std.specs.Prelude.{◌≡◌};
 ghost use Rattle.glyphs.specs.Stream.{seeded, draw, random_range};
 
-use float::wrapping_mul;
-
 #[derive(Clone, Copy)]
 pub struct Stream {
     pub state: u64,
@@ -33,9 +31,9 @@ impl Stream {
     pub fn draw(self) -> Draw
         ensures { result ≡ draw self }
     {
-        let state = std::num::wrapping_add_u64(self.state, 0x9e37_79b9_7f4a_7c15);
-        let a = wrapping_mul(state ^ (state >> 30), 0xbf58_476d_1ce4_e5b9);
-        let b = wrapping_mul(a ^ (a >> 27), 0x94d0_49bb_1331_11eb);
+        let state = self.state.wrapping_add(0x9e37_79b9_7f4a_7c15);
+        let a = (state ^ (state >> 30)).wrapping_mul(0xbf58_476d_1ce4_e5b9);
+        let b = (a ^ (a >> 27)).wrapping_mul(0x94d0_49bb_1331_11eb);
         let next = Stream { state };
         Draw {
             bits: b ^ (b >> 31),

@@ -1,10 +1,10 @@
 -- Laws of rows: what the rows of a job without fault say of its zones, and the room that its sheet may want.
 -- Rests on the laws of runs and zones.
-use Rattle.std.specs.Prelude.{ℕ, zero, suc, ◌+◌, ◌*◌, ◌<◌, ◌≤◌, ◌≡◌, Bool, true, false, cond, List, [], ◌∷◌, length, take, drop, get_or}
+use Rattle.std.specs.Prelude.{ℕ, zero, suc, ◌+◌, ◌*◌, ◌<◌, ◌≤◌, ◌≡◌, Bool, true, false, cond, List, [], ◌∷◌, ◌++◌, length, take, drop, get_or}
 use Rattle.std.proofs.Math.Path.{refl, ap}
 use Rattle.std.proofs.Common.{sym, ◌∙◌, arith, add-one, drop-cons, drop_of_length-le}
 use Rattle.laws.specs.Every.{Every}
-use Rattle.format.specs.Rows.{faults, each, flat}
+use Rattle.format.specs.Rows.{faults, past, each, flat}
 use Rattle.format.specs.Numbers.{u8, u16}
 use Rattle.format.specs.Pieces.{piece, piece_end}
 use Rattle.format.specs.RowLaws.{both, length_each}
@@ -101,6 +101,21 @@ rows_room_lem s [] [] r = unfold work_of zones_room in refl
 rows_room_lem s [] (row ∷ rows) r = absurd r
 rows_room_lem s (z ∷ zs) [] r = absurd r
 rows_room_lem s (z ∷ zs) (row ∷ rows) r = ap (λ (x : ℕ). row_room row + x) (rows_room_lem s zs rows r.1) ∙ row_room_lem s z row zs r.0
+
+-- ---- by number
+
+past_at : (s : List ℕ) (i : ℕ) (z : Place) → (past (zone_next s) i z).at ≡ past (zone_end s) i z.at
+unfolding past zone_next
+past_at s zero z = refl
+past_at s (suc i) z = past_at s i (zone_next s z)
+
+row_at_lem :
+    (s : List ℕ) (n at : ℕ) (rest : List Row) (i : ℕ) (d : Row) → i < n
+    → get_or (flat (zone_row s) (zone_end s) n at ++ rest) i d ≡ row_at s (past (zone_end s) i at)
+unfolding flat past zone_row
+row_at_lem s zero at rest i d h = absurd (omega arith)
+row_at_lem s (suc n) at rest zero d h = refl
+row_at_lem s (suc n) at rest (suc i) d h = row_at_lem s n (zone_end s at) rest i d (omega (arith, h))
 
 -- one turn of a walk over rows
 pub rooms_turn : (rows : List Row) (k : ℕ) (d : Row) → k < length rows → rows_room (drop k rows) ≡ row_room (get_or rows k d) + rows_room (drop (k + 1) rows)

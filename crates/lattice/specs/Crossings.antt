@@ -5,7 +5,7 @@ use Rattle.std.proofs.Common.{sym, ap, ◌∙◌, arith, add-one, zero-add, lt-l
 use Rattle.std.specs.Bool.{beq}
 use mathlib.Core.List.{foldl, append_assoc, append-nil}
 use Rattle.std.proofs.Math.Nat.{add-sub_cancel_left}
-use Rattle.std.proofs.Math.Seq.{take-suc-set, take-append_seam}
+use Rattle.std.proofs.Math.Seq.{take_all, take-suc-set, take-append_seam}
 use Rattle.float.specs.Ops.{◌+ᶠ◌, ◌-ᶠ◌, ◌*ᶠ◌, ◌/ᶠ◌, ◌<ᶠ◌, ◌>ᶠ◌, ε}
 use Rattle.glyphs.specs.Points.{Ring, vertices, x_at, y_at}
 use Rattle.regions.specs.declared.piece.RegionPiece.{RegionPiece}
@@ -179,18 +179,18 @@ holes_odd x y (ring ∷ rings) pre rest from e =
     rw (first, further)
 
 piece_odd :
-    (x y : Float) (ring : Ring) (rings : List Ring)
-    → inside_level x (crossings_of_all y (ring ∷ rings)) (ends_of y 0 (ring ∷ rings)) ≡ within x y (ring ∷ rings)
+    (x y : Float) (ring : Ring) (rings : List Ring) (rest : List Float) (n : ℕ) (ends : List ℕ) → take n ends ≡ ends_of y 0 (ring ∷ rings)
+    → inside_level x (crossings_of_all y (ring ∷ rings) ++ rest) (take n ends) ≡ within x y (ring ∷ rings)
 unfolding inside_level within outer holes ends_of crossings_of_all
-piece_odd x y ring rings =
+piece_odd x y ring rings rest n ends e =
     let cs = crossings_of y ring in
     let all = crossings_of_all y rings in
-    let n : 0 + length cs ≡ length cs = zero-add (length cs) in
-    let first : odd x (take (length cs) (cs ++ all)) ≡ point_in_polygon x y ring = rw (take-append_seam cs all) (ring_odd x y ring) in
-    let further : odd_any x (cs ++ all) (length cs) (ends_of y (length cs) rings) ≡ in_any x y rings =
-    ap (λ (l : List Float). odd_any x (cs ++ l) (length cs) (ends_of y (length cs) rings)) (sym (append-nil all))
-    ∙ holes_odd x y rings cs [] (length cs) refl in
-    rw (n, first, further)
+    let z : 0 + length cs ≡ length cs = zero-add (length cs) in
+    let first : odd x (take (length cs) ((cs ++ all) ++ rest)) ≡ point_in_polygon x y ring =
+    rw (append_assoc cs all rest, take-append_seam cs (all ++ rest)) (ring_odd x y ring) in
+    let further : odd_any x ((cs ++ all) ++ rest) (length cs) (ends_of y (length cs) rings) ≡ in_any x y rings =
+    rw (append_assoc cs all rest) (holes_odd x y rings cs rest (length cs) refl) in
+    rw (e, z, first, further)
 
 ends_ascend : (y : Float) (rings : List Ring) (from most : ℕ) → from + length (crossings_of_all y rings) ≤ most → Ascend most from (ends_of y from rings)
 unfolding ends_of crossings_of_all
@@ -219,10 +219,17 @@ crossed_all :
     (y : Float) (piece : RegionPiece) (ring : Ring) (rings : List Ring) → ring ∷ rings ≡ rings_of piece
     → Crossed y piece (crossings_of_all y (ring ∷ rings)) (ends_of y 0 (ring ∷ rings))
 crossed_all y piece ring rings e =
+    let all = crossings_of_all y (ring ∷ rings) in
+    let ends = ends_of y 0 (ring ∷ rings) in
+    let whole : take (length ends) ends ≡ ends = take_all (length ends) ends (omega arith) in
     record {
-      ends_are = record { some = ends_some y ring rings; ascend = ends_ascend y (ring ∷ rings) 0 (length (crossings_of_all y (ring ∷ rings))) (omega arith) };
+      ends_are = record { some = ends_some y ring rings; ascend = ends_ascend y (ring ∷ rings) 0 (length all) (omega arith) };
       each = length_ends y 0 (ring ∷ rings) ∙ ap length e ∙ length_rings 0 piece.sizes.now piece.coords.now;
-      inside = λ (x : Float). piece_odd x y ring rings ∙ ap (within x y) e;
+      inside = λ (x : Float).
+          ap (λ (l : List Float). inside_level x l ends) (sym (append-nil all))
+          ∙ ap (inside_level x (all ++ [])) (sym whole)
+          ∙ piece_odd x y ring rings [] (length ends) ends whole
+          ∙ ap (within x y) e;
     }
 
 pub crossed :

@@ -172,5 +172,12 @@ module _ (piece : Piece) (min-clearance : Float) (near : List Rectangle) where
       go true = refl
       go false = refl
 
+  -- a lattice with no spacing has none
+  pub cells_none :
+      (field : Field) (cap : Cap) → (field.lattice.spacing ≤ᶠ 0ᶠ || not (is_finite field.lattice.spacing)) ≡ true
+      → cells_of field piece min-clearance near cap ≡ no_cells
+  unfolding cells_within
+  cells_none field cap e = rw e
+
   pub cells_counted : (field : Field) (cap : ℕ) → 0 < cap → counts_of (cells_of field piece min-clearance near (at cap)) ≡ tally cap none (walk field)
   cells_counted field cap h = ap counts_of (cells_judged field (at cap)) ∙ counts_judged cap no_cells (walk field) h

@@ -39,7 +39,8 @@ fn put_crossing(
     None
 }
 
-// Puts the crossings of a ring behind those that there are.
+// Puts the crossings of a ring behind those that there are, and answers how many there are then, as `put_crossing` does. It
+// goes by index, as an edge ends at the vertex before its own, and the first one's at the last.
 fn put_ring(y: f64, v: &[f64], crossings: &mut [f64], start: usize) -> Option<usize>
     requires { start ≤ length crossings.old }
     ensures { IfSome result (λ n. (n ≤ length crossings.new) × (take n crossings.new ≡ take start crossings.old ++ crossings_of y v.now)) }

@@ -30,7 +30,8 @@ fn is_modest(v: f64) -> bool
     false
 }
 
-// How far off a height an edge is too far to matter, or NaN where that is not sure.
+// How far off a height an edge is too far to matter, or NaN where that is not sure: it passes no comparison, so that no edge
+// is far then, and none needs a branch for it, as an `Option` would.
 fn reach_of(y: f64, margin: Margin) -> f64
     ensures { Sure margin.least y result }
 {

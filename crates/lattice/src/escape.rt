@@ -5,11 +5,13 @@ ghost use Rattle.laws.specs.Orders.{◌then_by◌, is_lt};
 ghost use Rattle.float.specs.Total.{total_cmp};
 ghost use Rattle.regions.specs.Pieces.{rings_of};
 ghost use Rattle.lattice.specs.Escape.{better, exits, consider, best_exit, escape_obstacles};
+ghost use Rattle.lattice.specs.Keys.{ordering};
 
 use crate::nearest::squared_distance;
 use glyphs::rect::{Point, Rectangle, clear_of_obstacles};
 use regions::clearance::signed_clearance;
 use regions::piece::RegionPiece;
+use std::cmp::Ordering;
 
 // An exit, and the square of its distance from the anchor.
 #[derive(Clone, Copy)]
@@ -27,25 +29,23 @@ struct Blocked<'a> {
     clearance: f64,
 }
 
-// Whether an exit comes before another: by squared distance, then x, then y. Keys are worked out one after another, as
-// mostly the first decides: a tuple of them would need all. NaN has its place in the total order, which no derived order
-// gives it.
+// How two floats compare by their keys: NaN has its place in the total order, which no derived order gives it.
+fn total_cmp(x: f64, y: f64) -> Ordering
+    ensures { ordering result ≡ total_cmp x y }
+{
+    float::total_key(x).cmp(&float::total_key(y))
+}
+
+// Whether an exit comes before another: by squared distance, then x, then y.
 fn nearer(exit: Exit, best: Exit) -> bool
     ensures { result ≡ is_lt (total_cmp exit.square best.square then_by total_cmp exit.place.x best.place.x then_by total_cmp exit.place.y best.place.y) }
 {
-    let da = float::total_key(exit.square);
-    let db = float::total_key(best.square);
-    if da != db {
-        return da < db;
-    }
     let p = exit.place;
     let q = best.place;
-    let xa = float::total_key(p.x);
-    let xb = float::total_key(q.x);
-    if xa != xb {
-        return xa < xb;
-    }
-    float::total_less(p.y, q.y)
+    total_cmp(exit.square, best.square)
+        .then_with(|| total_cmp(p.x, q.x))
+        .then_with(|| total_cmp(p.y, q.y))
+        .is_lt()
 }
 
 // The nearer of what is found so far and an exit.

@@ -5,8 +5,9 @@ ghost use Rattle.glyphs.specs.Rect.{obstacles_near};
 use glyphs::bounds::Extents;
 use glyphs::rect::{Rectangle, is_near};
 
-// Writes the obstacles near a piece within the given extents to the front of `out`, and answers how many they are: the
-// room is lent, so their number stands beside it.
+// Writes the obstacles near a piece within the given extents to the front of `out`, and answers how many they are. Their
+// number is answered, and not the slice, so that the contract can speak of the room after the call. There may be any number of
+// obstacles, so room for as many is asked of callers.
 pub fn near_obstacles(
     obstacles: &[Rectangle],
     inset: f64,

@@ -1,8 +1,8 @@
 // discs.rs, `lattice_valid_cells`: the rows of a lattice.
-ghost use Rattle.std.specs.Prelude.{◌≡◌, ◌≤◌, min};
+ghost use Rattle.std.specs.Prelude.{◌≡◌, ◌≤◌, min, Float};
 ghost use Rattle.lattice.specs.Lattice.{row_height, row_offset};
 ghost use Rattle.lattice.specs.Span.{of_rank};
-ghost use Rattle.lattice.specs.Rows.{row_x, row_y, first_cell, width, row_of};
+ghost use Rattle.lattice.specs.Rows.{row_x, row_y, first_cell, last_cell, width, row_of};
 ghost use Rattle.lattice.specs.Walk.{cells_in};
 
 use crate::context::Lattice;
@@ -41,6 +41,17 @@ fn row_offset(lattice: Lattice, u: u64) -> f64
     0.0
 }
 
+// The ranks of the first and of the last cell of a row: there is none where the last is below the first.
+pub fn row_ends(field: Field, u: u64) -> (u64, u64)
+    ensures { (row_h : Float) → result ≡ (first_cell field row_h u, last_cell field row_h u) }
+{
+    let spacing = field.lattice.spacing;
+    let offset = row_offset(field.lattice, u);
+    let first = floor_rank((field.extents.min_x - offset - field.anchor.x) / spacing);
+    let last = ceil_rank((field.extents.max_x - offset - field.anchor.x) / spacing);
+    (first, last)
+}
+
 // The row of a rank, where rows are `row_h` apart, but at most `left` cells of it.
 pub fn row_at(field: Field, row_h: f64, u: u64, left: usize) -> Row
     ensures x { result.x ≡ row_x field row_h u }
@@ -51,16 +62,12 @@ pub fn row_at(field: Field, row_h: f64, u: u64, left: usize) -> Row
     ensures cells { cells_in result ≡ row_of field row_h u left }
     ensures few { result.count ≤ left }
 {
-    let spacing = field.lattice.spacing;
-    let offset = row_offset(field.lattice, u);
-    let first = floor_rank((field.extents.min_x - offset - field.anchor.x) / spacing);
-    let last = ceil_rank((field.extents.max_x - offset - field.anchor.x) / spacing);
-    let count = many(first, last, left);
+    let (first, last) = row_ends(field, u);
     Row {
-        x: field.anchor.x + offset,
+        x: field.anchor.x + row_offset(field.lattice, u),
         y: field.anchor.y + number(u) * row_h,
-        spacing,
+        spacing: field.lattice.spacing,
         first,
-        count,
+        count: many(first, last, left),
     }
 }

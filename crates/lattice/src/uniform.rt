@@ -37,7 +37,8 @@ fn anchor_of(poi: Point, site: Site) -> Point
     escape_obstacles(poi, site.piece, site.near, site.margin.least)
 }
 
-// The lattice about a deepest point.
+// The lattice about a deepest point. `rectangular` is data, which of two lattices the caller packs: it goes into the lattice's
+// field as it is.
 fn field_at(poi: Point, site: Site, ctx: PackCtx, rectangular: bool, extents: Extents) -> Field
     requires { site.margin.least ≡ inset ctx }
     ensures { result ≡ field_at poi (rings_of site.entry.piece) ctx site.entry.near.now rectangular extents }
@@ -105,7 +106,8 @@ pub fn pack_uniform_piece(
     )
 }
 
-// How many spots a trial packing of a piece has.
+// How many spots a trial packing of a piece has. The parameters are the source's, and what is lent; `rectangular` is data, as
+// in `field_at`.
 pub fn probe_uniform_piece(
     poi: Point,
     piece: RegionPiece,

@@ -31,6 +31,12 @@ still_long n was is long same = omega arith
 pub front_count : {A : Type 0} (n : ℕ) (back l : List A) → n ≤ length l → length (back ++ drop n l) ≡ length l → length (take n (back ++ drop n l)) ≡ n
 front_count n back l long same = length-take-le n (back ++ drop n l) (still_long n (length l) (length (back ++ drop n l)) long same)
 
+-- filled with z
+pub filled_front :
+    {A : Type 0} (n : ℕ) (z : A) (filled l : List A) → filled ≡ replicate n z → filled ++ drop n l ≡ written (replicate n z) l
+unfolding written
+filled_front {A = A} n z filled l e = ap (λ (xs : List A). xs ++ drop n l) e ∙ rw (length-replicate n z)
+
 -- lent a second time, and filled with z
 pub cleared_at :
     {A : Type 0} (n : ℕ) (z : A) (filled back l : List A) → filled ≡ replicate n z → n ≤ length l → length back ≡ length (take n l)

@@ -1,7 +1,7 @@
 -- The walk over a job's zones in flat slices: what is put and asked for each, and what is known of each. Definitions, and one turn of the walk.
 -- Rests on the kit's laws of lists.
-use Rattle.std.specs.Prelude.{ℕ, suc, ◌+◌, ◌-◌, ◌<◌, ◌≤◌, ◌≡◌, refl, Bool, true, false, ◌&&◌, take, drop, Float}
-use Rattle.std.proofs.Common.{sym, ap, ◌∙◌, arith, add-one, drop-cons, drop-drop, drop_of_length-le, length-drop, length-take-le, get_or}
+use Rattle.std.specs.Prelude.{ℕ, zero, suc, ◌+◌, ◌-◌, ◌≤◌, ◌≡◌, refl, Bool, true, false, ◌&&◌, take, drop, replicate, Float}
+use Rattle.std.proofs.Common.{sym, ap, ◌∙◌, arith, drop-drop, length-drop, length-take-le}
 use mathlib.Core.List.{List, [], ◌∷◌, ◌++◌, append_assoc}
 use native.Mathlib.Bridge.{le_prop}
 use Rattle.std.proofs.Math.ListN.{length, length-append}
@@ -11,15 +11,17 @@ use Rattle.glyphs.specs.Apportion.{apportion}
 use Rattle.regions.specs.Ring.{Piece}
 use Rattle.format.specs.RowLaws.{sets_append}
 use Rattle.deepest.specs.declared.search.Deepest.{Deepest}
+use Rattle.deepest.specs.declared.search.Deepest.TheVariants.{Nothing}
 use Rattle.discs.specs.declared.options.GlyphOptions.{GlyphOptions}
 use Rattle.discs.specs.declared.rows.Row.{Row}
+use Rattle.discs.specs.declared.rows.ZoneAt.{ZoneAt}
 use Rattle.discs.specs.declared.rows.Offsets.{Offsets}
 use Rattle.discs.specs.Region.{areas}
 use Rattle.discs.specs.Pieces.{pieces_of, Laid, laid_prop}
 use Rattle.discs.specs.Searches.{had_room}
-use Rattle.discs.specs.Floor.{row_is_left_in, cut, start, past_row, EachRow}
+use Rattle.discs.specs.Floor.{row_is_left_in, cut, start, past_row, EachRow, Steps}
 use Rattle.job.specs.Job.{row_room, rows_room}
-use Rattle.plan.specs.Found.{found_in}
+use Rattle.plan.specs.Found.{found_for, found_in}
 use Rattle.plan.specs.Walk.{length_pieces}
 use Rattle.plan.specs.Shares.{length_apportion, length_areas}
 
@@ -105,6 +107,20 @@ length_found options left_in [] quotas h = refl
 length_found options left_in (piece ∷ pieces) [] h = absurd (omega arith)
 length_found options left_in (piece ∷ pieces) (quota ∷ quotas) h = ap suc (length_found options left_in pieces quotas (omega arith))
 
+-- where a zone is left out there is none
+pub left_out :
+    (options : GlyphOptions) (pieces : List Piece) (quotas : List ℕ) → length pieces ≤ length quotas
+    → found_in options false pieces quotas ≡ replicate (length pieces) Nothing
+unfolding found_in found_for
+left_out options [] quotas h = refl
+left_out options (piece ∷ pieces) [] h = absurd (omega arith)
+left_out options (piece ∷ pieces) (quota ∷ quotas) h = ap (λ (l : List Deepest). Nothing ∷ l) (left_out options pieces quotas (omega arith))
+
+pub none_fit : (n : ℕ) → all had_room (replicate n Nothing) ≡ true
+unfolding all had_room
+none_fit zero = refl
+none_fit (suc n) = none_fit n
+
 module _ (rings sizes : List ℕ) (coords : List Float) (row : Row) (at : Offsets) (h : at.piece + row.pieces ≤ length rings) where
   pub length_shares : length (shares_at rings sizes coords row at) ≡ row.pieces
   unfolding shares_at
@@ -127,75 +143,55 @@ pub past_piece : (rings sizes : List ℕ) (row : Row) (at : Offsets) → (past_r
 unfolding past_row
 past_piece rings sizes row at = refl
 
--- what is read past the end
-abbrev pub no_row : Row
-no_row = record { key = 0; len = 0; count = 0; pieces = 0 }
+-- one turn of the walk
+module _ {rings sizes : List ℕ} {rows rest : List Row} {at next : Offsets} {zone : ZoneAt} (h : Steps rings sizes rows at zone rest next) where
+  pub flat_turn :
+      {A : Type 0} {x : List A} (view : Row → Offsets → List A) (l put : List A) (j m : ℕ) → m ≡ j + length (view zone.row zone.at)
+      → put ≡ sets l j (view zone.row zone.at)
+      → x ≡ sets l j (flat_rows rings sizes view rows at)
+      → x ≡ sets put m (flat_rows rings sizes view rest next)
+  unfolding flat_rows
+  flat_turn view l put j m i f g =
+      g ∙ rw (h.first, h.here, h.past) (sets_append l j (view zone.row zone.at) (flat_rows rings sizes view rest (past_row rings sizes zone.row zone.at)) ∙ rw (f, i))
 
-module _ (rings sizes : List ℕ) (rows : List Row) (k : ℕ) (at : Offsets) where
-  abbrev row : Row
-  row = get_or rows k no_row
+  pub length_turn :
+      {A : Type 0} {x : ℕ} (view : Row → Offsets → List A) (j m : ℕ) → m ≡ j + length (view zone.row zone.at)
+      → x ≡ j + length (flat_rows rings sizes view rows at)
+      → x ≡ m + length (flat_rows rings sizes view rest next)
+  unfolding flat_rows
+  length_turn view j m i g =
+      let r = flat_rows rings sizes view rest (past_row rings sizes zone.row zone.at) in
+      g ∙ rw (h.first, h.here, h.past) (omega (arith, length-append (view zone.row zone.at) r, i))
 
-  abbrev rest : List Row
-  rest = drop (k + 1) rows
+  pub all_turn :
+      {x : Bool} (test : Row → Offsets → Bool) → test zone.row zone.at ≡ true → x ≡ all_rows rings sizes test rows at
+      → x ≡ all_rows rings sizes test rest next
+  unfolding all_rows
+  all_turn test f g = g ∙ rw (h.first, h.here, h.past, f)
 
-  module _ (h : k < length rows) where
-    first : drop k rows ≡ get_or rows k no_row ∷ drop (k + 1) rows
-    first = rw (add-one k) (drop-cons rows k no_row h)
+  pub all_stop : {x : Bool} (test : Row → Offsets → Bool) → test zone.row zone.at ≡ false → x ≡ all_rows rings sizes test rows at → x ≡ false
+  unfolding all_rows
+  all_stop test f g = g ∙ rw (h.first, h.here, f)
 
-    pub each_turn :
-        (P : Row → Offsets → Type 0) → EachRow rings sizes P (drop k rows) at
-        → P (get_or rows k no_row) at × EachRow rings sizes P (drop (k + 1) rows) (past_row rings sizes (get_or rows k no_row) at)
-    unfolding EachRow
-    each_turn P r = rw first at r
+  pub rooms_turn : rows_room rows ≡ row_room zone.row + rows_room rest
+  unfolding rows_room
+  rooms_turn = rw h.first
 
-    pub flat_turn :
-        {A : Type 0} {x : List A} (view : Row → Offsets → List A) (l next : List A) (j m : ℕ) → m ≡ j + length (view (get_or rows k no_row) at)
-        → next ≡ sets l j (view (get_or rows k no_row) at)
-        → x ≡ sets l j (flat_rows rings sizes view (drop k rows) at)
-        → x ≡ sets next m (flat_rows rings sizes view (drop (k + 1) rows) (past_row rings sizes (get_or rows k no_row) at))
-    unfolding flat_rows
-    flat_turn view l next j m i f g =
-        g ∙ rw first (sets_append l j (view row at) (flat_rows rings sizes view rest (past_row rings sizes row at)) ∙ rw (f, i))
+  -- where the pieces of the zones after it start
+  pub next_piece : next.piece ≡ zone.at.piece + zone.row.pieces
+  next_piece = ap (λ (o : Offsets). o.piece) h.past ∙ past_piece rings sizes zone.row zone.at
 
-    pub length_turn :
-        {A : Type 0} {x : ℕ} (view : Row → Offsets → List A) (j m : ℕ) → m ≡ j + length (view (get_or rows k no_row) at)
-        → x ≡ j + length (flat_rows rings sizes view (drop k rows) at)
-        → x ≡ m + length (flat_rows rings sizes view (drop (k + 1) rows) (past_row rings sizes (get_or rows k no_row) at))
-    unfolding flat_rows
-    length_turn view j m i g =
-        let r = flat_rows rings sizes view rest (past_row rings sizes row at) in
-        g ∙ rw first (omega (arith, length-append (view row at) r, i))
+-- the walk's end
+module _ (rings sizes : List ℕ) (rows : List Row) (at : Offsets) (h : rows ≡ []) where
+  pub flat_end :
+      {A : Type 0} {x : List A} (view : Row → Offsets → List A) (l : List A) (j : ℕ) → x ≡ sets l j (flat_rows rings sizes view rows at) → x ≡ l
+  unfolding flat_rows
+  flat_end view l j g = g ∙ rw h
 
-    pub all_turn :
-        {x : Bool} (test : Row → Offsets → Bool) → test (get_or rows k no_row) at ≡ true → x ≡ all_rows rings sizes test (drop k rows) at
-        → x ≡ all_rows rings sizes test (drop (k + 1) rows) (past_row rings sizes (get_or rows k no_row) at)
-    unfolding all_rows
-    all_turn test f g = g ∙ rw (first, f)
+  pub length_end : {A : Type 0} {x : ℕ} (view : Row → Offsets → List A) (j : ℕ) → x ≡ j + length (flat_rows rings sizes view rows at) → x ≡ j
+  unfolding flat_rows
+  length_end view j g = g ∙ rw h (omega arith)
 
-    pub all_stop :
-        {x : Bool} (test : Row → Offsets → Bool) → test (get_or rows k no_row) at ≡ false → x ≡ all_rows rings sizes test (drop k rows) at → x ≡ false
-    unfolding all_rows
-    all_stop test f g = g ∙ rw (first, f)
-
-  module _ (h : length rows ≤ k) where
-    pub flat_end :
-        {A : Type 0} {x : List A} (view : Row → Offsets → List A) (l : List A) (j : ℕ) → x ≡ sets l j (flat_rows rings sizes view (drop k rows) at) → x ≡ l
-    unfolding flat_rows
-    flat_end view l j g = g ∙ rw (drop_of_length-le rows h)
-
-    pub length_end : {A : Type 0} {x : ℕ} (view : Row → Offsets → List A) (j : ℕ) → x ≡ j + length (flat_rows rings sizes view (drop k rows) at) → x ≡ j
-    unfolding flat_rows
-    length_end view j g = g ∙ rw (drop_of_length-le rows h) (omega arith)
-
-    pub all_end : {x : Bool} (test : Row → Offsets → Bool) → x ≡ all_rows rings sizes test (drop k rows) at → x ≡ true
-    unfolding all_rows
-    all_end test g = g ∙ rw (drop_of_length-le rows h)
-
--- one turn over the rooms
-pub rooms_turn : (rows : List Row) (k : ℕ) → k < length rows → rows_room (drop k rows) ≡ row_room (get_or rows k no_row) + rows_room (drop (k + 1) rows)
-unfolding rows_room
-rooms_turn rows k h = rw (add-one k, drop-cons rows k no_row h)
-
-pub rooms_end : (rows : List Row) (k : ℕ) → length rows ≤ k → rows_room (drop k rows) ≡ 0
-unfolding rows_room
-rooms_end rows k h = rw (drop_of_length-le rows h)
+  pub all_end : {x : Bool} (test : Row → Offsets → Bool) → x ≡ all_rows rings sizes test rows at → x ≡ true
+  unfolding all_rows
+  all_end test g = g ∙ rw h

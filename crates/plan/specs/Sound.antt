@@ -3,6 +3,7 @@
 use Prim.Native.Nat.{ℕ, zero, suc, ◌+◌}
 use Rattle.std.specs.Prelude.{◌≡◌, Bool, true, false, cond, ◌||◌, length, ltb, Float}
 use Rattle.std.proofs.Math.Path.{refl}
+use Rattle.std.specs.Float.Ieee
 use mathlib.Core.List.{List, [], ◌∷◌}
 use Rattle.laws.specs.Any.{all}
 use Rattle.laws.specs.Truth.{both_true}
@@ -104,6 +105,10 @@ module _ (options : GlyphOptions) where
   all_sound (piece ∷ pieces) (share ∷ shares) h =
       let p = both_true (had_room (searched 1600 options piece share)) (all had_room (searches_in 1600 options pieces shares)) h in
       rw (searched_sound piece share p.0, all_sound pieces shares p.1)
+
+no_clearance : 0ᶠ >ᶠ 0ᶠ ≡ false
+unfolding Ieee.lt Ieee.of_bits Ieee.of_fields Ieee.odd
+no_clearance = refl
 
 read_back : (found : Deepest) → sound found ≡ true → deepest_from found ≡ found
 unfolding sound deepest_from

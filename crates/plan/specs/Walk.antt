@@ -1,6 +1,7 @@
 -- One turn of a walk over pieces: the piece at hand, its rings within the slice, and those behind it.
 -- Rests on the kit's laws of lists.
 use Rattle.std.specs.Prelude.{ℕ, suc, ◌+◌, ◌-◌, ◌*◌, ◌<◌, ◌≤◌, ◌≡◌, refl, Bool, true, false, length, get_or, take, drop, set, Float}
+use Rattle.std.specs.Prelude.{Result, Ok, Err, IsErr, is_ok}
 use Rattle.std.proofs.Common.{ap, ◌∙◌, arith, take_all}
 use mathlib.Core.List.{List, [], ◌∷◌}
 use mathlib.Core.Logic.{◌⊎◌, inl, inr}
@@ -12,6 +13,7 @@ use Rattle.laws.specs.Any.{all}
 use Rattle.regions.specs.Ring.{Piece, sum}
 use Rattle.regions.specs.Area.{piece_area}
 use Rattle.deepest.specs.declared.search.Deepest.{Deepest}
+use Rattle.deepest.specs.declared.waiting.NoRoom.{NoRoom}
 use Rattle.discs.specs.declared.options.GlyphOptions.{GlyphOptions}
 use Rattle.discs.specs.Region.{areas}
 use Rattle.discs.specs.Pieces.{pieces_of, Laid}
@@ -20,6 +22,11 @@ use Rattle.plan.specs.Found.{found_for, found_in}
 
 pub never : false ≡ true → ⊥
 never e = let z : ◌≡◌ {A = ℕ} 0 1 = cc in omega arith
+
+-- a search without room
+pub no_room : (r : Result Unit NoRoom) → IsErr r → is_ok r ≡ false
+no_room (Ok done) h = absurd (never h)
+no_room (Err none) h = refl
 
 -- the part of a slice from a place on
 pub rest_is : {A : Type 0} (l : List A) (a : ℕ) → take (length l - a) (drop a l) ≡ drop a l

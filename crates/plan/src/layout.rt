@@ -1,12 +1,13 @@
 // The zones of a job as the reader leaves them in slices.
 ghost use Rattle.std.specs.Prelude.{◌≡◌};
 ghost use Rattle.discs.specs.Slices.{pieces_left};
-ghost use Rattle.discs.specs.Floor.{cut, past_row};
+ghost use Rattle.discs.specs.Floor.{cut};
+ghost use Rattle.discs.specs.ZoneWalk.{WalksOver};
 ghost use Rattle.plan.specs.Rows.{Readable, AllReadable, rows_prop, pieces_at};
 
 use discs::options::GlyphOptions;
 use discs::pieces::Pieces;
-use discs::rows::{Offsets, Row, past_row, pieces_at};
+use discs::rows::{Row, Walk, ZoneAt, pieces_at};
 use glyphs::rect::Rectangle;
 
 // The row of each zone, and the rings, their sizes and their coordinates over all zones.
@@ -30,19 +31,18 @@ pub struct ReadJob<'b, 'a> {
 
 impl<'a> Layout<'a> {
     // The pieces of a zone.
-    pub(crate) fn pieces(self, row: Row, at: Offsets) -> Pieces<'a>
-        requires { Readable self.rings.now self.sizes.now self.coords.now row at }
-        ensures pieces { pieces_left result ≡ pieces_at self.entry.rings.now self.entry.sizes.now self.entry.coords.now row at }
-        ensures rings { result.rings.now ≡ cut at.piece row.pieces self.entry.rings.now }
+    pub(crate) fn pieces(self, zone: ZoneAt) -> Pieces<'a>
+        requires { Readable self.rings.now self.sizes.now self.coords.now zone.row zone.at }
+        ensures pieces { pieces_left result ≡ pieces_at self.entry.rings.now self.entry.sizes.now self.entry.coords.now zone.row zone.at }
+        ensures rings { result.rings.now ≡ cut zone.at.piece zone.row.pieces self.entry.rings.now }
     {
-        pieces_at(self.rings, self.sizes, self.coords, row, at)
+        pieces_at(self.rings, self.sizes, self.coords, zone)
     }
 
-    // Where the zone after one starts.
-    pub(crate) fn past(self, row: Row, at: Offsets) -> Offsets
-        requires { Readable self.rings.now self.sizes.now self.coords.now row at }
-        ensures { result ≡ past_row self.entry.rings.now self.entry.sizes.now row at }
+    // The zones, one by one.
+    pub(crate) fn walk(self) -> Walk<'a>
+        ensures { WalksOver self.entry.rings.now self.entry.sizes.now self.entry.rows.now result }
     {
-        past_row(self.rings, self.sizes, self.coords, row, at)
+        Walk::over(self.rows, self.rings, self.sizes, self.coords)
     }
 }

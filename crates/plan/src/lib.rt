@@ -40,15 +40,13 @@ use job::room::sheet_room;
 // Rows 3 to 14, then the zones.
 fn plan_items(
     mut job: Reader,
-    first: &mut [f64],
-    second: &mut [f64],
+    first: &mut [f64; 8000],
+    second: &mut [f64; 8000],
     sheet: &mut [u8],
     memory: &mut Memory,
 ) -> Result<Planned, Refusal>
     requires at { job.at ≡ version_at }
     requires bytes { length job.bytes.now ≤ 65536 }
-    requires first { length first.old ≡ 8000 }
-    requires second { length second.old ≡ 8000 }
     requires obstacles { memory.old.obstacles.items ≡ [] }
     requires coords { memory.old.pieces.coords.items ≡ [] }
     requires sizes { memory.old.pieces.sizes.items ≡ [] }
@@ -84,14 +82,12 @@ fn plan_items(
 // The same, with the memory that is not lent.
 fn plan_job(
     job: Reader,
-    first: &mut [f64],
-    second: &mut [f64],
+    first: &mut [f64; 8000],
+    second: &mut [f64; 8000],
     sheet: &mut [u8],
 ) -> Result<Planned, Refusal>
     requires at { job.at ≡ version_at }
     requires bytes { length job.bytes.now ≤ 65536 }
-    requires first { length first.old ≡ 8000 }
-    requires second { length second.old ≡ 8000 }
     ensures { Answered (items_number job.entry.bytes.now (length sheet.old)) (job_of job.entry.bytes.now) (answer_in result) sheet.old sheet.new }
 {
     // All of it is zeros, which are set where they lie: another deepest point, say none, would be made elsewhere and copied.
@@ -124,8 +120,11 @@ pub fn plan(
 {
     let job = open(s)?;
     check_work(first.len(), second.len())?;
-    let answer = plan_job(job, &mut first[..8000], &mut second[..8000], sheet);
-    clear(&mut first[..8000]);
-    clear(&mut second[..8000]);
+    // Row 2 left 8,000 in each.
+    let first = first.first_chunk_mut::<8000>().unwrap();
+    let second = second.first_chunk_mut::<8000>().unwrap();
+    let answer = plan_job(job, first, second, sheet);
+    clear(first);
+    clear(second);
     answer
 }

@@ -5,7 +5,8 @@ use discs::rows::Row;
 use format::pieces::JobPieces;
 use glyphs::rect::Rectangle;
 
-// The quotas and the deepest points of a job's pieces, the obstacles that are not dropped, and what the packers use.
+// The quotas and the deepest points of a job's pieces, the obstacles that are not dropped, and what the packers use. The
+// points are found by reading the quotas, so that an array of both would be read and written at once.
 #[derive(Drop)]
 pub struct Scratch {
     pub quotas: [usize; 1024],

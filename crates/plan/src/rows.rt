@@ -12,6 +12,7 @@ use crate::memory::Scratch;
 use crate::pillars::sanitize_obstacles;
 use crate::searches::search_zones;
 use crate::shares::share_zones;
+use deepest::waiting::NoRoom;
 use discs::bundle::{Lent, Packing, Work, Zones};
 use format::refusal::Refusal;
 use glyphs::rect::Rectangle;
@@ -43,26 +44,24 @@ fn lend<'a>(
 pub fn plan_zones(
     job: ReadJob<'_, '_>,
     scratch: &mut Scratch,
-    first: &mut [f64],
-    second: &mut [f64],
+    first: &mut [f64; 8000],
+    second: &mut [f64; 8000],
     sheet: &mut [u8],
 ) -> Result<Planned, Refusal>
     requires read { WasRead job }
     requires zones { length job.layout.rows.now ≤ 64 }
     requires pieces { length job.layout.rings.now ≤ 1024 }
     requires obstacles { length job.obstacles.now ≤ 64 }
-    requires first { length first.old ≡ 8000 }
-    requires second { length second.old ≡ 8000 }
     requires room { 15 + rows_room job.layout.rows.now ≤ length sheet.old }
     ensures { Answered (zones_number (job_of job.entry.bytes.now)) (job_of job.entry.bytes.now) (answer_in result) sheet.old sheet.new }
 {
     let layout = job.layout;
     share_zones(layout, &mut scratch.quotas[..]);
-    if !search_zones(
+    if let Err(NoRoom) = search_zones(
         job.options,
         layout,
         &scratch.quotas[..],
-        &mut first[..],
+        first,
         &mut scratch.deepest[..],
     ) {
         return Err(Refusal::SearchRoom);
@@ -83,6 +82,11 @@ pub fn plan_zones(
         quotas: &scratch.quotas[..],
         deepest: &scratch.deepest[..],
     };
-    let mut work = lend(&mut scratch.near[..], second, &mut scratch.flags[..], first);
+    let mut work = lend(
+        &mut scratch.near[..],
+        &mut second[..],
+        &mut scratch.flags[..],
+        &mut first[..],
+    );
     plan_pieces(packing, zones, &mut work, sheet)
 }

@@ -9,7 +9,7 @@ ghost use Rattle.plan.specs.Bundled.{zone_shares, all_shares};
 
 use crate::layout::Layout;
 use discs::pieces::Pieces;
-use discs::rows::{Offsets, Row};
+use discs::rows::ZoneAt;
 use glyphs::quotas::apportion;
 use regions::area::piece_area;
 
@@ -49,14 +49,15 @@ fn share_pieces(count: usize, pieces: Pieces<'_>, quotas: &mut [usize])
 }
 
 // Puts the quotas of a zone's pieces.
-fn share_zone(layout: Layout<'_>, row: Row, at: Offsets, quotas: &mut [usize])
-    requires zone { Readable layout.rings.now layout.sizes.now layout.coords.now row at }
+fn share_zone(layout: Layout<'_>, zone: ZoneAt, quotas: &mut [usize])
+    requires zone { Readable layout.rings.now layout.sizes.now layout.coords.now zone.row zone.at }
     requires room { length layout.rings.now ≤ length quotas.old }
-    ensures { quotas.new ≡ sets quotas.old at.piece (zone_shares layout.entry row at) }
+    ensures { quotas.new ≡ sets quotas.old zone.at.piece (zone_shares layout.entry zone.row zone.at) }
 {
+    let ZoneAt { row, at } = zone;
     let p = at.piece;
     let q = p + row.pieces;
-    share_pieces(row.count, layout.pieces(row, at), &mut quotas[p..q]);
+    share_pieces(row.count, layout.pieces(zone), &mut quotas[p..q]);
 }
 
 // Puts the quotas of all pieces of the zones.
@@ -64,9 +65,7 @@ pub fn share_zones(layout: Layout<'_>, quotas: &mut [usize])
     requires { length layout.rings.now ≤ length quotas.old }
     ensures { quotas.new ≡ sets quotas.old 0 (all_shares layout.entry) }
 {
-    let mut at = Offsets::START;
-    for row in layout.rows {
-        share_zone(layout, *row, at, &mut quotas[..]);
-        at = layout.past(*row, at);
+    for zone in layout.walk() {
+        share_zone(layout, zone, &mut quotas[..]);
     }
 }

@@ -18,7 +18,7 @@ use crate::setting::Setting;
 use discs::bundle::{Work, Zones};
 use discs::options::GlyphOptions;
 use discs::region::pack_region;
-use discs::rows::{Offsets, Row, is_left_in, past_row};
+use discs::rows::{Row, ZoneAt, is_left_in};
 use discs::trial::context_at;
 use discs::zone::region_at;
 use glyphs::mode::PackMode;
@@ -47,18 +47,12 @@ fn pack_mode(options: GlyphOptions) -> PackMode
 }
 
 // Packs a zone: its spots to the front of the lent ones, and how many they are; none without a size.
-fn place_zone(
-    setting: Setting<'_>,
-    zones: Zones<'_>,
-    row: Row,
-    at: Offsets,
-    work: &mut Work<'_>,
-) -> usize
-    requires zone { IsPackable zones row at }
+fn place_zone(setting: Setting<'_>, zones: Zones<'_>, zone: ZoneAt, work: &mut Work<'_>) -> usize
+    requires zone { IsPackable zones zone.row zone.at }
     requires near { length setting.packing.obstacles.now ≤ length work.old.lent.near.now }
-    requires left_in { row_is_left_in row ≡ true }
-    ensures counted { result ≡ placed_in (zone_spots setting.entry zones.entry row at) }
-    ensures spots { work.new.spots.now ≡ written (flat (flatten (zone_spots setting.entry zones.entry row at))) work.old.spots.now }
+    requires left_in { row_is_left_in zone.row ≡ true }
+    ensures counted { result ≡ placed_in (zone_spots setting.entry zones.entry zone.row zone.at) }
+    ensures spots { work.new.spots.now ≡ written (flat (flatten (zone_spots setting.entry zones.entry zone.row zone.at))) work.old.spots.now }
     ensures same { SameWork work.old work.new }
 {
     let Some(size) = setting.size else {
@@ -66,7 +60,7 @@ fn place_zone(
     };
     let packing = setting.packing;
     let ctx = context_at(packing.options, pack_mode(packing.options), size.radius);
-    let region = region_at(zones, row, at);
+    let region = region_at(zones, zone);
     pack_region(packing, ctx, region, &mut work.lent, &mut work.spots[..])
 }
 
@@ -101,32 +95,31 @@ fn put_placement(
 fn put_row(
     setting: Setting<'_>,
     zones: Zones<'_>,
-    row: Row,
-    at: Offsets,
+    zone: ZoneAt,
     work: &mut Work<'_>,
     sheet: &mut [u8],
     done: Done,
 ) -> Done
-    requires zone { IsPackable zones row at }
+    requires zone { IsPackable zones zone.row zone.at }
     requires near { length setting.packing.obstacles.now ≤ length work.old.lent.near.now }
-    requires fair { ZoneFair setting zones row at }
-    requires room { done.at + row_room row ≤ length sheet.old }
+    requires fair { ZoneFair setting zones zone.row zone.at }
+    requires room { done.at + row_room zone.row ≤ length sheet.old }
     requires zones { done.zones ≤ 64 }
-    ensures put { Put (zone_bytes setting.entry zones.entry row at) done.at result.at sheet.old sheet.new }
-    ensures counted { result.zones ≡ done.zones + length (zone_placed setting.entry zones.entry row at) }
-    ensures room { result.at ≤ done.at + row_room row }
+    ensures put { Put (zone_bytes setting.entry zones.entry zone.row zone.at) done.at result.at sheet.old sheet.new }
+    ensures counted { result.zones ≡ done.zones + length (zone_placed setting.entry zones.entry zone.row zone.at) }
+    ensures room { result.at ≤ done.at + row_room zone.row }
     ensures one { result.zones ≤ done.zones + 1 }
     ensures same { SameWork work.old work.new }
 {
-    if !is_left_in(row) {
+    if !is_left_in(zone.row) {
         return done;
     }
-    let placed = place_zone(setting, zones, row, at, work);
+    let placed = place_zone(setting, zones, zone, work);
     let to = put_placement(
         &mut sheet[..],
         done.at,
         zones.bytes,
-        row,
+        zone.row,
         placed,
         work.spots,
     );
@@ -153,10 +146,8 @@ pub fn put_zones(
     ensures same { SameWork work.old work.new }
 {
     let mut done = Done { at: 15, zones: 0 };
-    let mut at = Offsets::START;
-    for row in zones.rows {
-        done = put_row(setting, zones, *row, at, work, &mut sheet[..], done);
-        at = past_row(zones.rings, zones.sizes, zones.coords, *row, at);
+    for zone in zones.walk() {
+        done = put_row(setting, zones, zone, work, &mut sheet[..], done);
     }
     done
 }

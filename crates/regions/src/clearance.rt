@@ -34,6 +34,7 @@ pub fn edge_square(px: f64, py: f64, ax: f64, ay: f64, bx: f64, by: f64) -> f64
     ex * ex + ey * ey
 }
 
+// The source's own test: of NaN and of the two zeros it keeps what neither `min` does.
 pub fn lesser(d: f64, best: f64) -> f64
     ensures { result ≡ closer d best }
 {
@@ -142,7 +143,8 @@ pub fn inside_piece(x: f64, y: f64, piece: RegionPiece) -> bool
     true
 }
 
-// The root of a square, with a minus outside; unless `always` is set, only outside.
+// The root of a square, with a minus outside; unless `always` is set, only outside. Without the flag the two walks that end
+// here, of a small ring and of a piece, would each stand twice.
 pub fn with_root(square: f64, inside: bool, always: bool) -> f64
     ensures { result ≡ rooted_if always inside square }
 {

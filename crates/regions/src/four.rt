@@ -14,7 +14,7 @@ use crate::piece::{RegionPiece, Rings};
 use crate::ring::{after, before};
 use glyphs::points::{vx, vy};
 
-// What each of four places has.
+// What each of four places has, by name: no index is to be within an array.
 #[derive(Clone, Copy)]
 pub struct Four<T> {
     pub a: T,

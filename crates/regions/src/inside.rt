@@ -77,11 +77,9 @@ pub fn point_in_polygon(x: f64, y: f64, v: &[f64]) -> bool
     }
     let j = n - 1;
     let mut inside = crosses(x, y, vx(v, 0), vy(v, 0), vx(v, j), vy(v, j));
-    let mut i = 1;
-    // In blocks: a `for` with a step would have to say first where the last one ends.
-    while n - i >= 16 {
-        inside = turned_by_sixteen(x, y, v, i, inside);
-        i += 16;
+    let blocks = (n - 1) / 16;
+    for block in 0..blocks {
+        inside = turned_by_sixteen(x, y, v, block * 16 + 1, inside);
     }
-    turned_from(x, y, v, i, n, inside)
+    turned_from(x, y, v, blocks * 16 + 1, n, inside)
 }

@@ -2,11 +2,12 @@
 -- tests in another order.
 -- Rests on the definitions and the laws of `all`.
 use Rattle.std.specs.Prelude.{◌≡◌, Bool, not, cond, Some, None, ◌&&◌, ◌||◌, length, get_or, take, drop, set, Float}
+use Rattle.std.specs.Simd.{first_chunks}
 use Rattle.std.proofs.Math.Path.{refl, sym}
-use Rattle.std.proofs.Common.{◌∙◌, add-one, le_refl, length-set, get_or-set_same}
+use Rattle.std.proofs.Common.{◌∙◌, add-one, drop-drop, le_refl, length-set, get_or-set_same}
 use Rattle.std.proofs.Math.Bool.{true, false, and_assoc, or-true}
 use mathlib.Core.List.{List, [], ◌∷◌, foldl}
-use Prim.Native.Nat.{ℕ, zero, suc, ◌+◌, ◌<◌}
+use Prim.Native.Nat.{ℕ, zero, suc, ◌+◌, ◌*◌, ◌<◌}
 use native.Mathlib.Omega.{arith}
 use Rattle.std.proofs.Math.Nat.{zero-add}
 use Rattle.std.proofs.Math.Dec.{eqb}
@@ -15,13 +16,13 @@ use mir.Val.{bool_byte}
 use borrow.Author.Tests.{eq-eqb, ne_eqb, not-true, not-false}
 use Rattle.laws.specs.Any.{all}
 use Rattle.laws.specs.Truth.{both_true}
-use Rattle.laws.specs.Blocks.{fold_next}
+use Rattle.laws.specs.Blocks.{fold_block, fold_next}
 use Rattle.float.specs.Ops.{◌+ᶠ◌, ◌-ᶠ◌, ◌*ᶠ◌, ◌/ᶠ◌, ◌<ᶠ◌, ◌≤ᶠ◌, ◌≥ᶠ◌, 0ᶠ}
 use Rattle.float.specs.Order.{sqrt}
 use Rattle.glyphs.specs.declared.rect.Point.{Point}
 use Rattle.glyphs.specs.declared.rect.Rectangle.{Rectangle}
 use Rattle.glyphs.specs.Rect.{clear_of_obstacles}
-use Rattle.glyphs.specs.Spots.{apart, near_count}
+use Rattle.glyphs.specs.Spots.{apart, near_count, spots_of, spots_take, spots_drop}
 use Rattle.regions.specs.Ring.{Piece}
 use Rattle.regions.specs.Clearance.{signed_clearance}
 use Rattle.regions.specs.Margins.{margin_of, least_of_margin}
@@ -148,6 +149,20 @@ module _ (influence : Float) (p : Point) where
   far_all (q ∷ qs) f h =
       let e = both_true (apart p.x p.y (influence *ᶠ influence) q) (all (apart p.x p.y (influence *ᶠ influence)) qs) h in
       rw (far q f e.0) (far_all qs f e.1)
+
+  -- the pushes of the marks of a block, and those of a list whose first blocks are cut off
+  abbrev pub block_pushes : Force → List Float → Force
+  block_pushes f block = foldl (push_of influence p) f (spots_of block)
+
+  pub pushes_cut :
+      (f : Force) (k : ℕ) (l : List Float)
+      → foldl (push_of influence p) f (spots_of l)
+      ≡ foldl (push_of influence p) (foldl block_pushes f (first_chunks 16 k l)) (spots_of (drop (k * 16) l))
+  pushes_cut f zero l = refl
+  pushes_cut f (suc k) l =
+      let step : suc k * 16 ≡ 16 + k * 16 = omega arith in
+      fold_block (push_of influence p) f 8 0 (spots_of l)
+      ∙ rw (step, ← drop-drop (k * 16) 16 l, ← spots_take 8 l, ← spots_drop 8 l) (pushes_cut (block_pushes f (take 16 l)) k (drop 16 l))
 
   -- a mark written behind the m of a list, and counted if it is near enough
   pub gathered :

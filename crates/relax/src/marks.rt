@@ -1,4 +1,5 @@
-// The marks that are evened out, and what is noted of each. The slices are lent by C, two floats a mark and one.
+// The marks that are evened out, and what is noted of each. The floats lie in slices that C lends, two a mark
+// and one.
 ghost use Rattle.std.specs.Prelude.{◌≡◌, ◌*◌, length};
 
 // The places of the marks, the clearance of each, its root not taken, and whether it was clear of the obstacles at first.

@@ -85,35 +85,31 @@ fn push_near(influence: f64, p: Point, start: Force, spots: &[f64]) -> Force
     f
 }
 
-// The pushes of the eight marks from mark `k` on. Mostly all are too far away, and eight are told so at once, with no branch
-// for each.
-fn push_eight(influence: f64, p: Point, start: Force, spots: &[f64], k: usize) -> Force
-    requires { k + 8 ≤ length spots.now / 2 }
-    ensures { result ≡ foldl (push_of influence p) start (take 8 (drop k (spots_of spots.now))) }
+// The pushes of the eight marks of a block. Mostly all are too far away, and eight are told so at once, with no branch for each.
+fn push_eight(influence: f64, p: Point, start: Force, block: &[f64; 16]) -> Force
+    ensures { result ≡ foldl (push_of influence p) start (spots_of block.now) }
 {
-    if apart_from_eight(p.x, p.y, influence * influence, spots, k) {
+    if apart_from_eight(p.x, p.y, influence * influence, &block[..], 0) {
         return start;
     }
-    let a = k * 2;
-    let e = a + 16;
-    push_near(influence, p, start, &spots[a..e])
+    push_near(influence, p, start, &block[..])
 }
 
 // The pushes of all marks of a slice. Mostly they are too far away.
 fn push_all(influence: f64, p: Point, start: Force, spots: &[f64]) -> Force
     ensures { result ≡ foldl (push_of influence p) start (spots_of spots.now) }
 {
-    let blocks = spots.len() / 2 / 8;
+    let (blocks, rest) = spots.as_chunks::<16>();
     let mut f = start;
-    for block in 0..blocks {
-        f = push_eight(influence, p, f, spots, block * 8);
+    for block in blocks {
+        f = push_eight(influence, p, f, block);
     }
-    push_near(influence, p, f, &spots[blocks * 16..])
+    push_near(influence, p, f, rest)
 }
 
 // Puts the marks of a slice that are near enough to push behind the `m` of a list, and answers how many there are then.
-// Which these are nobody can guess, so there is no branch on it: a mark that is not is overwritten. The list is the front of
-// an array, with its count beside it, as there is no heap.
+// Which these are nobody can guess, so there is no branch on it: a mark that is not is overwritten. A vector has nothing
+// to overwrite behind its last, so the list is the front of an array, with its count beside it.
 fn gather(influence: f64, p: Point, spots: &[f64], near: &mut [f64], m: usize) -> usize
     requires { m + length spots.now / 2 ≤ length near.old / 2 }
     ensures few { result ≤ m + length spots.now / 2 }

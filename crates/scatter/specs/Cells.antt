@@ -1,14 +1,16 @@
 -- The spacing test of low discrepancy by what it reads: the cells that spots are kept in, by the ranks of their numbers.
--- Definitions for the code, with their laws. Rests on the laws of ranks.
-use Rattle.std.specs.Prelude.{◌≡◌, refl, ◌⊎◌, Bool, true, false, not, ◌&&◌, ◌||◌, List, [], ◌∷◌, length, get_or, Float}
-use Rattle.std.specs.Prelude.{ℕ, zero, suc, ◌-◌, ◌≤◌, ◌<◌, eqb, leb, ℤ, pos, negsuc}
-use Rattle.std.proofs.Common.{sym, inl, inr, arith, ne_eqb}
+-- Definitions for the code, with their laws. Rests on the laws of ranks, and of `all` over a block.
+use Rattle.std.specs.Prelude.{◌≡◌, refl, ◌⊎◌, Bool, true, false, not, ◌&&◌, ◌||◌, List, [], ◌∷◌, length, get_or, take, drop, Float}
+use Rattle.std.specs.Prelude.{ℕ, zero, suc, ◌+◌, ◌-◌, ◌*◌, ◌≤◌, ◌<◌, eqb, leb, ℤ, pos, negsuc}
+use Rattle.std.proofs.Common.{sym, ◌∙◌, inl, inr, arith, ne_eqb, drop-drop}
 use Rattle.std.proofs.lemmas.Bool.Decides.{nat_tests}
 use Rattle.std.proofs.lemmas.List.Recursion.{and_fails_at}
 use Rattle.std.specs.Int.{abs_diff}
-use Rattle.std.proofs.Math.Bool.{or-true, or-false}
+use Rattle.std.specs.Simd.{first_chunks}
+use Rattle.std.proofs.Math.Bool.{or-true, or-false, and_assoc}
 use Rattle.std.proofs.Math.IntN.{suc_ℤ, pred_ℤ}
 use Rattle.laws.specs.Any.{all}
+use Rattle.laws.specs.Blocks.{all_block}
 use Rattle.laws.specs.Orders.{lt_or_le}
 use Rattle.float.specs.Ops.{◌*ᶠ◌, ◌≥ᶠ◌, ε}
 use Rattle.float.specs.Order as Float
@@ -102,6 +104,21 @@ all_far cells p (q ∷ qs) e = both (squared_distance p q ≥ᶠ cells.least) re
         → keeps cells p q && all (keeps cells p) qs ≡ true
     both true f g later = rw (far_keeps cells p q f) (later g)
     both false f g later = let w : ◌≡◌ {A = ℕ} 0 1 = cc in absurd (omega arith)
+
+-- the test of a block's spots, and that of a list whose first blocks are cut off
+module _ (cells : Cells) (p : Point) where
+  abbrev pub keeps_block : List Float → Bool
+  keeps_block block = all (keeps cells p) (Spots.spots_of block)
+
+  pub keeps_cut :
+      (k : ℕ) (l : List Float) → keeps_block l ≡ all keeps_block (first_chunks 16 k l) && keeps_block (drop (k * 16) l)
+  unfolding all
+  keeps_cut zero l = refl
+  keeps_cut (suc k) l =
+      let step : suc k * 16 ≡ 16 + k * 16 = omega arith in
+      all_block (keeps cells p) 8 0 (Spots.spots_of l)
+      ∙ rw (step, ← drop-drop (k * 16) 16 l, ← Spots.spots_take 8 l, ← Spots.spots_drop 8 l, keeps_cut k (drop 16 l))
+      (sym (and_assoc (keeps_block (take 16 l)) (all keeps_block (first_chunks 16 k (drop 16 l))) (keeps_block (drop (k * 16) (drop 16 l)))))
 
 -- one spot that fails is enough
 pub one_fails : {A : Type 0} (f : A → Bool) (xs : List A) (k : ℕ) (d : A) → k < length xs → f (get_or xs k d) ≡ false → all f xs ≡ false

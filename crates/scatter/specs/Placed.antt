@@ -18,12 +18,15 @@ pub placed_front : (ps : List Point) (l : List Float) (m : ℕ) → length ps �
 unfolding written
 placed_front ps l m e = rw (← e) (front ps (drop (length (flat ps)) l))
 
+-- the coordinates of the first spots are the first of the slice
+pub flat_first : (count : ℕ) (l : List Float) → count * 2 ≤ length l → flat (take count (spots_of l)) ≡ take (count * 2) l
+flat_first count l h = rw (← spots_take count l) (flat_spots (take (count * 2) l) count (length-take-le (count * 2) l h))
+
 -- the first m spots of a slice written to it
 pub placed_same : (m : ℕ) (l : List Float) → m * 2 ≤ length l → l ≡ written (flat (take m (spots_of l))) l
 unfolding written
 placed_same m l h =
-    rw (← spots_take m l, flat_spots (take (m * 2) l) m (length-take-le (m * 2) l h), length-take-le (m * 2) l h)
-    (sym (take-append-drop (m * 2) l))
+    rw (flat_first m l h, length-take-le (m * 2) l h) (sym (take-append-drop (m * 2) l))
 
 -- a list written over a shorter one
 pub written_over : (xs ys l : List Float) → length ys ≤ length xs → written xs (written ys l) ≡ written xs l

@@ -1,6 +1,6 @@
 // discs.rs, `pack_low_discrepancy_piece`: the cells that spots are kept in, and the spacing test within the nine
 // cells around a candidate's. Distances come first, eight at a time: a spot that is far enough needs no cell.
-ghost use Rattle.std.specs.Prelude.{◌≡◌, true, false, ◌+◌, ◌/◌, ◌≤◌, ◌<◌, length, take, drop};
+ghost use Rattle.std.specs.Prelude.{◌≡◌, true, false, ◌<◌};
 ghost use Rattle.laws.specs.Any.{all};
 ghost use Rattle.glyphs.specs.Spots.{spots_of};
 ghost use Rattle.lattice.specs.Span.{rank_of};
@@ -83,26 +83,24 @@ impl Cells {
         (0..spots.len() / 2).all(|k| self.keeps(p, spot(spots, k)))
     }
 
-    // The same for the eight spots from spot `k` on.
-    fn keeps_eight(&self, p: Point, spots: &[f64], k: usize) -> bool
-        requires { k + 8 ≤ length spots.now / 2 }
-        ensures { result ≡ all (keeps self.now p) (take 8 (drop k (spots_of spots.now))) }
+    // The same for the eight spots of a block.
+    fn keeps_eight(&self, p: Point, block: &[f64; 16]) -> bool
+        ensures { result ≡ all (keeps self.now p) (spots_of block.now) }
     {
-        apart_from_eight(p.x, p.y, self.least, spots, k)
-            || self.keeps_each(p, &spots[k * 2..k * 2 + 16])
+        apart_from_eight(p.x, p.y, self.least, &block[..], 0) || self.keeps_each(p, &block[..])
     }
 
     // The same for all spots.
     pub fn keeps_all(&self, p: Point, spots: &[f64]) -> bool
         ensures { result ≡ all (keeps self.now p) (spots_of spots.now) }
     {
-        let blocks = spots.len() / 16;
-        for block in 0..blocks {
-            if !self.keeps_eight(p, spots, block * 8) {
+        let (blocks, rest) = spots.as_chunks::<16>();
+        for block in blocks {
+            if !self.keeps_eight(p, block) {
                 return false;
             }
         }
-        self.keeps_each(p, &spots[blocks * 16..])
+        self.keeps_each(p, rest)
     }
 
     // Hints: for each cell the spot placed there last. This is where a place's cell has its hint; cells 64 apart share one.

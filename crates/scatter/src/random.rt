@@ -59,17 +59,16 @@ fn aim(rng: Stream, range: Extents) -> Aimed
 
 // One pass: marks behind those that `spots` has, until they are n or one is out of attempts. The next dart is aimed before
 // one is judged: what becomes of that nobody can guess, and the stream waits for no answer. The passes differ in `honor`
-// alone. A dart that lands goes on with the next mark, as in the source, so the outer loop counts no turns.
+// alone. A dart that lands goes on with the next mark, as in the source.
 fn throw_glyphs(site: &Site, attempts: u32, honor: bool, start: Taken, spots: &mut [f64]) -> Taken
     requires { (start.count ≤ site.now.n) × (site.now.n * 2 ≤ length spots.old) }
     ensures { Holds (pass_from site.now attempts honor start.count start.rng spots.old) result spots.new spots.old }
 {
     let n = site.n;
     let range = site.extents;
-    let mut count = start.count;
     let mut rng = start.rng;
     let mut ahead = aim(rng, range);
-    'glyphs: while count < n {
+    'glyphs: for count in start.count..n {
         for _ in 0..attempts {
             let p = Point {
                 x: ahead.x,
@@ -80,13 +79,12 @@ fn throw_glyphs(site: &Site, attempts: u32, honor: bool, start: Taken, spots: &m
             let placed = spots_before(&spots[..], count);
             if lands(site, honor, p, placed) {
                 put_spot(&mut spots[..], count, p);
-                count += 1;
                 continue 'glyphs;
             }
         }
-        break;
+        return Taken { count, rng };
     }
-    Taken { count, rng }
+    Taken { count: n, rng }
 }
 
 // Both passes; the second does not honor the obstacles.

@@ -72,8 +72,6 @@ plan_zones-requires c =
       zones = (rows_fit_lem _ _ _ _ _ _ _ _ o.read whole).0;
       pieces = c.as_slice.ensures.fits;
       obstacles = c.as_slice-4.ensures.fits;
-      first = p.first;
-      second = p.second;
       room = omega (arith, c.sheet_room.ensures, c.if-not-fits.false);
     }
 

@@ -4,6 +4,6 @@ use Rattle.std.proofs.Common.{le_refl}
 use Rattle.std.specs.Float.Ieee.{nan, of_bits}
 use Rattle.deepest.proofs.queue.half.Goals as goal
 
-pub returns-in-None : goal.returns-in-None
+pub returns : goal.returns
 unfolding of_bits
-returns-in-None c = c.in-None.ensures.lookup.4 (le_refl c.args.k) nan
+returns c = rw (c.unwrap_or.ensures, c.copied.ensures) (c.get.ensures.lookup.4 (le_refl c.args.k) nan)

@@ -29,4 +29,5 @@ returns c =
       halves = s.halves ∙ halves-3;
       len = omega (arith, len-3, s.len);
       entered = omega (arith, entered-3, s.entered);
+      same = s.same ∙ r.same ∙ q.same ∙ p.same;
     }

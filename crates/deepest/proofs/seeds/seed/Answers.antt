@@ -6,16 +6,17 @@ use Rattle.deepest.specs.Turns.{entered}
 use Rattle.deepest.proofs.seeds.seed.Goals as goal
 
 pub loop-next-init : goal.loop-next-init
-loop-next-init c = (refl, refl, rw (c.requires.0, c.requires.1), rw (c.requires.0, c.first_corner-next.ensures) (plant_start _ _ _ _ _ _))
+loop-next-init c = (refl, refl, rw (c.requires.0, c.requires.1), refl, rw (c.requires.0, c.first_corner-next.ensures) (plant_start _ _ _ _ _ _))
 
 pub returns-then-room-eq0 : goal.returns-then-room-eq0
 returns-then-room-eq0 c =
     let l = c.loop-next in
     let i = l.invariant in
     record {
-      full = plant_over _ _ _ _ _ _ _ _ (rw c.in-Some.is at i.3) (omega (arith, i.0, c.room.ensures.places, c.if-room-eq0.true));
+      full = plant_over _ _ _ _ _ _ _ _ (rw c.in-Some.is at i.4) (omega (arith, i.0, c.room.ensures.places, c.if-room-eq0.true));
       halves = i.1;
       long = i.0;
+      same = i.3;
     }
 
 pub push-requires-clause-early : goal.push-requires-clause-early
@@ -33,16 +34,18 @@ loop-next-preserved c =
       e.long ∙ i.0,
       w.halves ∙ i.1,
       rw (w.len, w.entered, i.2),
+      w.same ∙ i.3,
       rw (c.next_corner-next.ensures, w.len)
-          (plant_step _ _ _ _ _ _ _ _ (rw c.in-Some.is at i.3) _ _ _ more (rw c.half-h0.ensures) (rw c.half-h0.ensures) e),
+          (plant_step _ _ _ _ _ _ _ _ (rw c.in-Some.is at i.4) _ _ _ more (rw c.half-h0.ensures) (rw c.half-h0.ensures) e),
     )
 
 pub returns : goal.returns
 returns c =
     let i = c.loop-next.invariant in
     record {
-      planted = plant_end _ _ _ _ _ _ _ (rw c.in_default.is at i.3);
+      planted = plant_end _ _ _ _ _ _ _ (rw c.in_default.is at i.4);
       halves = i.1;
       long = i.0;
+      same = i.3;
       entered = i.2;
     }

@@ -11,6 +11,7 @@ invariant-loop-next l =
     (length l.waiting.cells.now ≡ length w.cells.now)
     × (l.waiting.halves.now ≡ w.halves.now)
     × (l.waiting.entered ≡ l.waiting.len)
+    × (l.waiting.cells.ghost_name ≡ w.cells.ghost_name)
     × Planting (rings_of l.piece) w.halves.now l.tiling.bounds l.tiling.side (length w.cells.now / 5) l.waiting.cells.now l.waiting.len l.next
 
 abbrev pub decreases-loop-next : goal.decreases-loop-next

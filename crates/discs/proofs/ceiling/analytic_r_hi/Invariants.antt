@@ -1,13 +1,16 @@
 -- `analytic_r_hi` meets its contract. The invariant: the answer is that of the zones left, from `r_hi` on.
 -- Rests on a turn over zones.
-use Rattle.std.proofs.Common.{◌≡◌, ℕ, List, drop}
+use Rattle.std.proofs.Common.{◌≡◌, ℕ, List}
 use mathlib.Core.List.{foldl}
 use Rattle.float.specs.Ops.{∞}
 use Rattle.discs.specs.Floor.{handed_from, handed_work, work_in, lowered_by, EachRow, Stands}
 use Rattle.discs.proofs.ceiling.analytic_r_hi.Given as goal
 
-abbrev pub invariant-loop-row : goal.invariant-loop-row
-invariant-loop-row l =
-    EachRow l.rings l.sizes (Stands l.rings l.sizes l.coords l.deepest) (drop l.row-index l.rows) l.at
+abbrev pub invariant-loop-zone : goal.invariant-loop-zone
+invariant-loop-zone l =
+    let left = l.zone-iterator in
+    (left.rings.now ≡ l.rings)
+    × (left.sizes.now ≡ l.sizes)
+    × EachRow l.rings l.sizes (Stands l.rings l.sizes l.coords l.deepest) left.rows.now left.at
     × ((s quotas : List ℕ) → foldl (lowered_by l.gap) ∞ (work_in s l.rows l.rings l.sizes l.coords quotas l.deepest)
-    ≡ foldl (lowered_by l.gap) l.r_hi (handed_work (handed_from s l.rings l.sizes l.coords quotas l.deepest (drop l.row-index l.rows) l.at)))
+    ≡ foldl (lowered_by l.gap) l.r_hi (handed_work (handed_from s l.rings l.sizes l.coords quotas l.deepest left.rows.now left.at)))

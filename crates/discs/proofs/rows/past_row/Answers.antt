@@ -9,9 +9,9 @@ use Rattle.discs.proofs.rows.past_row.Goals as goal
 pub total-requires : goal.total-requires
 total-requires c =
     let a = c.args in
-    let fits : sum (take a.row.pieces c.split_at.result.1.now) ≤ length (drop a.at.ring a.sizes.now) =
+    let fits : sum (take a.zone.row.pieces c.split_at.result.1.now) ≤ length (drop a.zone.at.ring a.sizes.now) =
     rw c.split_at.ensures.back (laid_rings _ _ _ c.requires.laid) in
-    omega (arith, fits, length-drop a.at.ring a.sizes.now)
+    omega (arith, fits, length-drop a.zone.at.ring a.sizes.now)
 
 pub split_at-requires-3 : goal.split_at-requires-3
 split_at-requires-3 c = rw (c.total.ensures, c.split_at.ensures.back, c.split_at-2.ensures.back) (laid_rings _ _ _ c.requires.laid)
@@ -19,23 +19,23 @@ split_at-requires-3 c = rw (c.total.ensures, c.split_at.ensures.back, c.split_at
 pub total-requires-2 : goal.total-requires-2
 total-requires-2 c =
     let a = c.args in
-    let fits : sum c.split_at-3.result.0.now * 2 ≤ length (drop a.at.coord a.coords.now) =
+    let fits : sum c.split_at-3.result.0.now * 2 ≤ length (drop a.zone.at.coord a.coords.now) =
     rw (c.split_at-3.ensures.front, c.total.ensures, c.split_at.ensures.back, c.split_at-2.ensures.back) (laid_coords _ _ _ c.requires.laid) in
-    omega (arith, fits, length-drop a.at.coord a.coords.now)
+    omega (arith, fits, length-drop a.zone.at.coord a.coords.now)
 
 pub overflow_mul-result : goal.overflow_mul-result
 overflow_mul-result c =
     let a = c.args in
-    let fits : sum c.split_at-3.result.0.now * 2 ≤ length (drop a.at.coord a.coords.now) =
+    let fits : sum c.split_at-3.result.0.now * 2 ≤ length (drop a.zone.at.coord a.coords.now) =
     rw (c.split_at-3.ensures.front, c.total.ensures, c.split_at.ensures.back, c.split_at-2.ensures.back) (laid_coords _ _ _ c.requires.laid) in
-    omega (arith, fits, c.total-2.ensures, length-drop a.at.coord a.coords.now)
+    omega (arith, fits, c.total-2.ensures, length-drop a.zone.at.coord a.coords.now)
 
 pub overflow_add-result-3 : goal.overflow_add-result-3
 overflow_add-result-3 c =
     let a = c.args in
-    let fits : sum c.split_at-3.result.0.now * 2 ≤ length (drop a.at.coord a.coords.now) =
+    let fits : sum c.split_at-3.result.0.now * 2 ≤ length (drop a.zone.at.coord a.coords.now) =
     rw (c.split_at-3.ensures.front, c.total.ensures, c.split_at.ensures.back, c.split_at-2.ensures.back) (laid_coords _ _ _ c.requires.laid) in
-    omega (arith, fits, c.total-2.ensures, length-drop a.at.coord a.coords.now)
+    omega (arith, fits, c.total-2.ensures, length-drop a.zone.at.coord a.coords.now)
 
 pub returns : goal.returns
 unfolding past_row

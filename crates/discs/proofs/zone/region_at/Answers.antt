@@ -8,7 +8,7 @@ use Rattle.discs.proofs.zone.region_at.Goals as goal
 
 pub returns-clause-key : goal.returns-clause-key
 unfolding handed_at
-returns-clause-key c = part_is c.args.row.key c.args.row.len c.args.zones.bytes.now
+returns-clause-key c = part_is c.args.zone.row.key c.args.zone.row.len c.args.zones.bytes.now
 
 pub returns-clause-pieces : goal.returns-clause-pieces
 unfolding handed_at
@@ -16,8 +16,8 @@ returns-clause-pieces c = c.pieces_at.ensures.pieces
 
 pub returns-clause-quotas : goal.returns-clause-quotas
 unfolding handed_at
-returns-clause-quotas c = part_is c.args.at.piece c.args.row.pieces c.args.zones.quotas.now
+returns-clause-quotas c = part_is c.args.zone.at.piece c.args.zone.row.pieces c.args.zones.quotas.now
 
 pub returns-clause-deepest : goal.returns-clause-deepest
 unfolding handed_at
-returns-clause-deepest c = ap deepests_of (part_is c.args.at.piece c.args.row.pieces c.args.zones.deepest.now)
+returns-clause-deepest c = ap deepests_of (part_is c.args.zone.at.piece c.args.zone.row.pieces c.args.zones.deepest.now)

@@ -24,12 +24,12 @@ float_to_bits-bits c = is_number _ c.if-x.false
 
 pub float_from_bits-result : goal.float_from_bits-result
 float_from_bits-result c =
-    rw (c.wrapping_add_u64.ensures.value, c.sign_bit.ensures) (turned_no_nan c.args.x c.args.keep (held c.before.before.before) (is_number _ c.if-x.false))
+    rw c.sign_bit.ensures (turned_no_nan c.args.x c.args.keep (held c.before.before) (is_number _ c.if-x.false))
 
 pub returns-then-x : goal.returns-then-x
 returns-then-x c = rw (differs_from_itself c.args.x (yes c.if-x.true)) (same c.args.keep)
 
 pub returns-else-x : goal.returns-else-x
 returns-else-x c =
-    rw (c.wrapping_add_u64.ensures.value, c.sign_bit.ensures, turned_pattern c.args.x c.args.keep (held c.before.before.before) (is_number _ c.if-x.false))
-    (of_bits-to_bits binary64 _ (turned_fits c.args.x c.args.keep (held c.before.before.before)))
+    rw (c.sign_bit.ensures, turned_pattern c.args.x c.args.keep (held c.before.before) (is_number _ c.if-x.false))
+    (of_bits-to_bits binary64 _ (turned_fits c.args.x c.args.keep (held c.before.before)))

@@ -6,7 +6,7 @@ use Rattle.float.proofs.roots.is_nearest.Goals as goal
 
 pub overflow_add-high : goal.overflow_add-high
 overflow_add-high c =
-    let borrow = ltb ((c.args.m + 2) % 0x1000 * 2 ^ 52) c.wrapping_mul-low.result in
+    let borrow = ltb ((c.args.m + 2) % 0x1000 * 2 ^ 52) (c.args.r * c.args.r % 2 ^ 64) in
     record { fits = high_fits c.args.r c.high_mul-high.result borrow c.requires.root c.high_mul-high.ensures }
 
 pub returns-then-high-lower : goal.returns-then-high-lower
@@ -24,6 +24,6 @@ returns c t =
     let m = c.args.m in
     let r = c.args.r in
     let d = c.wrapping_sub_u64-rest.result in
-    let e = residual (m + 2) (r * r) d (search rules) (rw c.wrapping_mul-low.ensures at c.wrapping_sub_u64-rest.ensures.value) (rw (c.high_mul-high.ensures, c.wrapping_mul-low.ensures) at c.if-high-lower.false) in
+    let e = residual (m + 2) (r * r) d (search rules) c.wrapping_sub_u64-rest.ensures.value (rw c.high_mul-high.ensures at c.if-high-lower.false) in
     let f : r * r + d ≡ m * 2 ^ 52 + 2 ^ 53 = e ∙ omega arith in
     nearest (m * 2 ^ 52) r d f (ltb→lt (2 ^ 53) (d + r) t) c.if-rest-r.false

@@ -13,7 +13,7 @@ pub loop-i-preserved : goal.loop-i-preserved
 loop-i-preserved c =
     let l = c.loop-i in
     let a = c.args in
-    let quota = quota_of a.n c.total-sum.result c.left_over-left.result a.weights.now in (
+    let quota = quota_of a.n c.total.result c.left_over-left.result a.weights.now in (
       length-set l.quotas l.i c.quota_of.result ∙ l.invariant.0,
       write_next quota l.quotas a.quotas.now l.i c.quota_of.result l.invariant.1 c.quota_of.ensures (search rules),
     )
@@ -23,6 +23,6 @@ returns c =
     let l = c.loop-i in
     let a = c.args in
     let e : l.i ≡ length a.weights.now = omega arith in
-    let t = c.total-sum.ensures in
+    let t = c.total.ensures in
     let v = c.left_over-left.ensures in
     l.invariant.1 ∙ rw (apportioned, e, v, t)

@@ -7,4 +7,5 @@ use Rattle.glyphs.proofs.quotas.apportion.Given as goal
 
 abbrev pub invariant-loop-i : goal.invariant-loop-i
 invariant-loop-i l =
-    (length l.quotas ≡ length l.initial.quotas) × (l.quotas ≡ written (tabulate (quota_of l.n l.sum l.left l.weights) l.i) l.initial.quotas)
+    let s = l.shares in
+    (length l.quotas ≡ length l.initial.quotas) × (l.quotas ≡ written (tabulate (quota_of s.n s.total l.left s.weights.now) l.i) l.initial.quotas)

@@ -1,27 +1,28 @@
--- `apart_from_all` meets its contract. The invariant of the loops: the answer is that of the marks from mark k on, and of `ok` in the second.
+-- `apart_from_all` meets its contract. The invariant of the loops: the answer is that of the marks behind the blocks, and of `ok` in the second.
 -- Rests on the laws of `all` over a block, over one element and over none.
-use Rattle.std.proofs.Common.{◌<◌, ◌≤◌, length, sym, refl, ◌∙◌, arith, rules}
+use Rattle.std.proofs.Common.{◌≡◌, ◌+◌, ◌*◌, ◌/◌, ◌<◌, ◌≤◌, length, sym, ◌∙◌, arith, rules}
 use mathlib.Core.Bool.{and-true, and_assoc}
 use Rattle.laws.specs.Any.{all_step, all_end}
 use Rattle.laws.specs.Blocks.{all_block}
 use Rattle.glyphs.specs.Spots.{spots_of, spots_at_lem, length_spots}
 use Rattle.glyphs.proofs.spots.apart_from_all.Goals as goal
 
-pub loop-k-init : goal.loop-k-init
-loop-k-init c = (search rules, search rules, refl)
-
 pub returns-then-not-apart_from_eight : goal.returns-then-not-apart_from_eight
 returns-then-not-apart_from_eight c =
     let e = c.apart_from_eight in
-    rw (c.loop-k.invariant.2, all_block _ 8 _ _, ← e.ensures, c.if-not-apart_from_eight.true)
+    rw (c.loop-block.invariant, all_block _ 8 _ _, ← e.ensures, c.if-not-apart_from_eight.true)
 
-pub loop-k-preserved : goal.loop-k-preserved
-loop-k-preserved c =
+pub loop-block-preserved : goal.loop-block-preserved
+loop-block-preserved c =
     let e = c.apart_from_eight in
-    (search rules, search rules, rw (c.loop-k.invariant.2, all_block _ 8 _ _, ← e.ensures, c.if-not-apart_from_eight.false))
+    let next : (c.loop-block.block + 1) * 8 ≡ c.loop-block.block * 8 + 8 = omega arith in
+    rw (next, c.loop-block.invariant, all_block _ 8 _ _, ← e.ensures, c.if-not-apart_from_eight.false)
 
 pub loop-i-init : goal.loop-i-init
-loop-i-init c = (search rules, c.loop-k.invariant.2)
+loop-i-init c =
+    let l = c.loop-block in
+    let done : l.block ≡ c.saturating_sub-blocks.result / 8 = omega (arith, l.auto.block-end, c.loop-block-test.false) in
+    (search rules, rw done at l.invariant)
 
 pub loop-i-preserved : goal.loop-i-preserved
 loop-i-preserved c =

@@ -1,26 +1,22 @@
 -- `nearer` meets its contract: the first keys that differ decide.
 -- Rests on the laws of comparisons one after another.
-use Rattle.std.proofs.Common.{sym, ◌∙◌}
-use Rattle.lattice.specs.Keys.{key_differs, key_same, key_last}
+use Rattle.std.proofs.Common.{◌≡◌, ap, ◌∙◌, rules}
+use Prim.Native.Nat.{Ordering}
+use Rattle.laws.specs.Orders.{◌then_by◌, is_lt}
+use Rattle.float.specs.Total.{total_cmp}
+use Rattle.lattice.specs.Keys.{ordering, found_lt, then_is, then_assoc}
 use Rattle.lattice.proofs.escape.nearer.Goals as goal
-
-pub returns-then-da-db : goal.returns-then-da-db
-returns-then-da-db c =
-    let a = c.args in
-    sym (key_differs a.exit.square a.best.square _ _ _ c.total_key-da.ensures c.total_key-db.ensures c.if-da-db.true)
-
-pub returns-then-xa-xb : goal.returns-then-xa-xb
-returns-then-xa-xb c =
-    let a = c.args in
-    sym
-    (key_same a.exit.square a.best.square _ _ _ c.total_key-da.ensures c.total_key-db.ensures c.if-da-db.false
-    ∙ key_differs a.exit.place.x a.best.place.x _ _ _ c.total_key-xa.ensures c.total_key-xb.ensures c.if-xa-xb.true)
 
 pub returns : goal.returns
 returns c =
-    let a = c.args in
-    c.total_less.ensures
-    ∙ sym
-    (key_same a.exit.square a.best.square _ _ _ c.total_key-da.ensures c.total_key-db.ensures c.if-da-db.false
-    ∙ key_same a.exit.place.x a.best.place.x _ _ _ c.total_key-xa.ensures c.total_key-xb.ensures c.if-xa-xb.false
-    ∙ key_last a.exit.place.y a.best.place.y)
+    let p = c.args.exit in
+    let q = c.args.best in
+    let by-square = total_cmp p.square q.square in
+    let by-x = total_cmp p.place.x q.place.x in
+    let by-y = total_cmp p.place.y q.place.y in
+    let second : ordering c.then_with.result ≡ by-square then_by by-x =
+    then_is c.total_cmp.result c.then_with.result by-x c.then_with.ensures (λ k. search rules)
+    ∙ ap (λ (o : Ordering). o then_by by-x) c.total_cmp.ensures in
+    let third : ordering c.then_with-2.result ≡ (by-square then_by by-x) then_by by-y =
+    then_is c.then_with.result c.then_with-2.result by-y c.then_with-2.ensures (λ k. search rules) ∙ ap (λ (o : Ordering). o then_by by-y) second in
+    c.is_lt.ensures ∙ found_lt c.then_with-2.result ∙ ap is_lt (third ∙ then_assoc by-square by-x by-y)

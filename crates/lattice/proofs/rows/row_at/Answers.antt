@@ -1,22 +1,21 @@
 -- `row_at` meets its contract: the cells of the row of a rank.
 -- Rests on the contracts of its calls.
-use Rattle.std.proofs.Common.{◌∙◌}
+use Rattle.std.proofs.Common.{ap, ◌∙◌}
 use Rattle.lattice.specs.Rows.{row_of}
 use Rattle.lattice.proofs.rows.row_at.Goals as goal
 
 pub returns-clause-x : goal.returns-clause-x
-returns-clause-x c = rw c.row_offset-offset.ensures
+returns-clause-x c = rw c.row_offset.ensures
 
 pub returns-clause-y : goal.returns-clause-y
 returns-clause-y c = rw c.number.ensures
 
 pub returns-clause-first : goal.returns-clause-first
-returns-clause-first c = c.floor_rank-first.ensures ∙ rw c.row_offset-offset.ensures
+returns-clause-first c = rw (c.row_ends-first.ensures c.args.row_h)
 
 pub returns-clause-count : goal.returns-clause-count
-returns-clause-count c = rw (c.many-count.ensures, c.ceil_rank-last.ensures, c.floor_rank-first.ensures, c.row_offset-offset.ensures)
+returns-clause-count c = rw (c.many.ensures, c.row_ends-first.ensures c.args.row_h)
 
 pub returns-clause-cells : goal.returns-clause-cells
 unfolding row_of
-returns-clause-cells c =
-    rw (c.many-count.ensures, c.number.ensures, c.ceil_rank-last.ensures, c.floor_rank-first.ensures, c.row_offset-offset.ensures)
+returns-clause-cells c = rw (c.many.ensures, c.number.ensures, c.row_ends-first.ensures c.args.row_h, c.row_offset.ensures)

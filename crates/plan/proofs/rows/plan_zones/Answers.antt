@@ -1,18 +1,20 @@
 -- `plan_zones` answers a job that was read in: rows 15 and 16, and the sheet.
 -- Rests on what its calls ensure, and on these being the definition's over the job's zones.
-use mathlib.Core.Path.{refl, ◌∙◌}
+use mathlib.Core.Path.{◌≡◌, refl, ap, ◌∙◌}
 use native.Mathlib.Omega.{arith}
+use Rattle.std.specs.Prelude.{is_ok}
 use borrow.Author.Rules.{rules}
+use Rattle.glyphs.specs.Rect.{sanitize_obstacles}
 use Rattle.plan.proofs.Zoned.{refused_search, zones_floor, zones_fair, planned_zones}
 use Rattle.plan.proofs.rows.plan_zones.Goals as goal
 
-pub returns-then-not-search_zones : goal.returns-then-not-search_zones
-returns-then-not-search_zones c =
+pub returns-in-Err : goal.returns-in-Err
+returns-in-Err c =
     let j = c.args.job in
     let n = j.layout in
     let p = c.requires in
     refused_search j.bytes.now j.options j.obstacles.now n.rows.now n.rings.now n.sizes.now n.coords.now p.read
-    _ _ (omega (arith, p.pieces)) c.share_zones.ensures _ _ (omega (arith, p.pieces)) _ c.search_zones.ensures c.if-not-search_zones.true _ refl _
+    _ _ (omega (arith, p.pieces)) c.share_zones.ensures _ _ (omega (arith, p.pieces)) _ c.search_zones.ensures (ap is_ok c.in-Err.is) _ refl _
 
 pub invariant_of-zones : goal.invariant_of-zones
 invariant_of-zones c =
@@ -22,11 +24,11 @@ invariant_of-zones c =
     record {
       floor =
           zones_floor j.bytes.now j.options j.obstacles.now n.rows.now n.rings.now n.sizes.now n.coords.now p.read
-          _ _ (omega (arith, p.pieces)) c.share_zones.ensures _ _ (omega (arith, p.pieces)) _ c.search_zones.ensures c.if-not-search_zones.false;
+          _ _ (omega (arith, p.pieces)) c.share_zones.ensures _ _ (omega (arith, p.pieces)) _ c.search_zones.ensures (ap is_ok c.in_default.is);
     }
 
 pub lend-work-requires : goal.lend-work-requires
-lend-work-requires c = record { second = omega (arith, c.requires.second); flags = omega arith; spots = search rules }
+lend-work-requires c = record { second = omega arith; flags = omega arith; spots = omega arith }
 
 pub plan_pieces-requires : goal.plan_pieces-requires
 plan_pieces-requires c =
@@ -37,7 +39,7 @@ plan_pieces-requires c =
       near = search rules;
       fair = λ size.
           zones_fair j.bytes.now j.options j.obstacles.now n.rows.now n.rings.now n.sizes.now n.coords.now p.read
-          _ _ (omega (arith, p.pieces)) c.share_zones.ensures _ _ (omega (arith, p.pieces)) _ c.search_zones.ensures c.if-not-search_zones.false _ _ size;
+          _ _ (omega (arith, p.pieces)) c.share_zones.ensures _ _ (omega (arith, p.pieces)) _ c.search_zones.ensures (ap is_ok c.in_default.is) _ _ size;
       room = p.room;
       few = p.zones;
     }
@@ -47,7 +49,7 @@ returns c =
     let j = c.args.job in
     let n = j.layout in
     let p = c.requires in
-    let kept = c.as_slice.ensures.value ∙ c.sanitize_obstacles.ensures ∙ rw c.clear.ensures in
+    let kept : c.as_slice.result.now ≡ sanitize_obstacles j.obstacles.now = c.as_slice.ensures.value ∙ c.sanitize_obstacles.ensures ∙ rw c.clear.ensures in
     planned_zones j.bytes.now j.options j.obstacles.now n.rows.now n.rings.now n.sizes.now n.coords.now p.read
-    _ _ (omega (arith, p.pieces)) c.share_zones.ensures _ _ (omega (arith, p.pieces)) _ c.search_zones.ensures c.if-not-search_zones.false
+    _ _ (omega (arith, p.pieces)) c.share_zones.ensures _ _ (omega (arith, p.pieces)) _ c.search_zones.ensures (ap is_ok c.in_default.is)
     _ kept _ _ _ c.plan_pieces.ensures.planned

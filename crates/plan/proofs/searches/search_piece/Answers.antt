@@ -1,21 +1,37 @@
 -- `search_piece` finds the deepest point where it is asked for.
 -- Rests on what its calls ensure.
-use mathlib.Core.Path.{◌∙◌}
+use mathlib.Core.Path.{◌≡◌, refl, sym, ap, ◌∙◌}
+use mathlib.Core.Bool.{true}
 use Rattle.deepest.specs.Deepest.{deeper_of, poi_with_holes}
-use Rattle.discs.specs.Searches.{searched}
-use Rattle.plan.specs.Found.{found_for}
+use Rattle.deepest.specs.declared.search.Deepest.{Deepest}
+use Rattle.deepest.specs.declared.search.Deepest.TheVariants.{Found, Nothing, Full}
+use Rattle.discs.specs.Searches.{searched, had_room}
 use Rattle.plan.proofs.searches.search_piece.Goals as goal
 
-pub returns-then-not-left_in : goal.returns-then-not-left_in
-unfolding found_for
-returns-then-not-left_in c = rw (c.if-not-left_in.true)
+other : (found : Deepest) → (found ≡ Full → ⊥) → true ≡ had_room found
+unfolding had_room
+other Full h = absurd (h refl)
+other Nothing h = refl
+other (Found x y clearance) h = refl
 
-pub returns-then-is_searched : goal.returns-then-is_searched
-unfolding found_for searched poi_with_holes deeper_of
-returns-then-is_searched c =
-    rw (c.if-not-left_in.false, ← c.is_searched.ensures, c.if-is_searched.true)
-    (c.deepest_point.ensures ∙ rw c.requires)
+pub returns-then-not-is_searched-clause-room : goal.returns-then-not-is_searched-clause-room
+unfolding searched had_room
+returns-then-not-is_searched-clause-room c = rw (← c.is_searched.ensures, c.if-not-is_searched.true)
 
-pub returns : goal.returns
-unfolding found_for searched
-returns c = rw (c.if-not-left_in.false, ← c.is_searched.ensures, c.if-is_searched.false)
+pub returns-then-not-is_searched-clause-found : goal.returns-then-not-is_searched-clause-found
+unfolding searched
+returns-then-not-is_searched-clause-found c = rw (← c.is_searched.ensures, c.if-not-is_searched.true)
+
+pub returns-in-Full-clause-room : goal.returns-in-Full-clause-room
+unfolding searched poi_with_holes deeper_of had_room
+returns-in-Full-clause-room c =
+    rw (← c.is_searched.ensures, c.if-not-is_searched.false)
+    (ap had_room (sym c.in-Full.is ∙ c.deepest_point.ensures ∙ rw c.told-cells))
+
+pub returns-in_default : goal.returns-in_default
+unfolding searched poi_with_holes deeper_of
+returns-in_default c =
+    rw (← c.is_searched.ensures, c.if-not-is_searched.false) (record {
+      room = other _ c.in_default.not-Full ∙ ap had_room (rw c.told-cells at c.deepest_point.ensures);
+      found = rw c.told-cells at c.deepest_point.ensures;
+    })

@@ -1,7 +1,13 @@
 -- `search_zone` finds the deepest points of the zone that a row names.
--- Rests on what `search_pieces` ensures and on the parts of slices that are lent.
+-- Rests on what its calls ensure and on the parts of slices that are lent.
+use mathlib.Core.Path.{◌≡◌, sym, ◌∙◌}
 use native.Mathlib.Omega.{arith}
-use Rattle.plan.specs.Rows.{found_at, length_cut}
+use Rattle.std.specs.Prelude.{◌+◌, ◌≤◌, length, drop, replicate}
+use Rattle.std.proofs.lemmas.List.{length-replicate}
+use Rattle.deepest.specs.declared.search.Deepest.TheVariants.{Nothing}
+use Rattle.discs.specs.Floor.{cut}
+use Rattle.plan.specs.Walk.{length_pieces}
+use Rattle.plan.specs.Rows.{pieces_at, found_at, cut_is, length_cut, part_put, left_out, none_fit}
 use Rattle.plan.proofs.searches.search_zone.Goals as goal
 
 pub part-requires : goal.part-requires
@@ -11,11 +17,28 @@ pub search_pieces-requires : goal.search_pieces-requires
 search_pieces-requires c =
     let a = c.args in
     let r = c.requires.zone in
-    record {
-      cells = c.requires.cells;
-      room = rw (c.pieces.ensures.rings, length_cut a.at.piece a.row.pieces a.layout.rings.now r.ringed) (omega (arith, r.ringed, c.requires.room));
-    }
+    rw (c.pieces.ensures.rings, length_cut a.zone.at.piece a.zone.row.pieces a.layout.rings.now r.ringed) (omega (arith, r.ringed, c.requires.room))
+
+pub returns-then-not-is_left_in : goal.returns-then-not-is_left_in
+unfolding found_at
+returns-then-not-is_left_in c =
+    let a = c.args in
+    let r = c.requires.zone in
+    let room : a.zone.at.piece + a.zone.row.pieces ≤ length a.deepest.now = omega (arith, r.ringed, c.requires.room) in
+    let pieces = pieces_at a.layout.rings.now a.layout.sizes.now a.layout.coords.now a.zone.row a.zone.at in
+    let count : length pieces ≡ a.zone.row.pieces =
+    length_pieces (cut a.zone.at.piece a.zone.row.pieces a.layout.rings.now) (drop a.zone.at.ring a.layout.sizes.now) (drop a.zone.at.coord a.layout.coords.now)
+    ∙ length_cut a.zone.at.piece a.zone.row.pieces a.layout.rings.now r.ringed in
+    let n = length_cut a.zone.at.piece a.zone.row.pieces a.quotas.now (omega (arith, r.ringed, c.requires.quotas)) in
+    let few : length pieces ≤ length (cut a.zone.at.piece a.zone.row.pieces a.quotas.now) = omega (arith, count, n) in
+    let none = left_out a.options pieces (cut a.zone.at.piece a.zone.row.pieces a.quotas.now) few in
+    let filled : c.fill.new.self ≡ replicate a.zone.row.pieces Nothing =
+    c.fill.ensures.after (λ y h. h) ∙ rw (cut_is a.zone.at.piece a.zone.row.pieces a.deepest.now, length_cut a.zone.at.piece a.zone.row.pieces a.deepest.now room) in
+    rw (← c.is_left_in.ensures, c.if-not-is_left_in.true, none, count, filled) (record {
+      fits = sym (none_fit a.zone.row.pieces);
+      put = λ e. part_put a.deepest.now (replicate a.zone.row.pieces Nothing) a.zone.at.piece a.zone.row.pieces (length-replicate a.zone.row.pieces Nothing) room;
+    })
 
 pub returns : goal.returns
 unfolding found_at
-returns c = rw (c.pieces.ensures.pieces, c.part.ensures, c.is_left_in.ensures) at c.search_pieces.ensures
+returns c = rw (← c.is_left_in.ensures, c.if-not-is_left_in.false) (rw (c.pieces.ensures.pieces, c.part.ensures) at c.search_pieces.ensures)

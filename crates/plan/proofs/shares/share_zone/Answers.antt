@@ -16,13 +16,13 @@ pub share_pieces-requires : goal.share_pieces-requires
 share_pieces-requires c =
     let a = c.args in
     let r = c.requires.zone in
-    let rings : length c.pieces.result.rings.now ≡ a.row.pieces =
-    rw c.pieces.ensures.rings (length_cut a.at.piece a.row.pieces a.layout.rings.now r.ringed) in
+    let rings : length c.pieces.result.rings.now ≡ a.zone.row.pieces =
+    rw c.pieces.ensures.rings (length_cut a.zone.at.piece a.zone.row.pieces a.layout.rings.now r.ringed) in
     record {
       few = rw rings r.few;
       room =
-          rw (cut_is a.at.piece a.row.pieces a.quotas.now, rings)
-          (length_cut a.at.piece a.row.pieces a.quotas.now (omega (arith, r.ringed, c.requires.room)));
+          rw (cut_is a.zone.at.piece a.zone.row.pieces a.quotas.now, rings)
+          (length_cut a.zone.at.piece a.zone.row.pieces a.quotas.now (omega (arith, r.ringed, c.requires.room)));
       marks = r.marks;
     }
 
@@ -31,7 +31,7 @@ unfolding shares_at
 returns c =
     let a = c.args in
     let r = c.requires.zone in
-    let shares : c.share_pieces.new.quotas ≡ shares_at a.layout.rings.now a.layout.sizes.now a.layout.coords.now a.row a.at =
+    let shares : c.share_pieces.new.quotas ≡ shares_at a.layout.rings.now a.layout.sizes.now a.layout.coords.now a.zone.row a.zone.at =
     c.share_pieces.ensures ∙ rw c.pieces.ensures.pieces in
-    let long = length_shares a.layout.rings.now a.layout.sizes.now a.layout.coords.now a.row a.at r.ringed in
-    rw shares (part_put a.quotas.now _ a.at.piece a.row.pieces long (omega (arith, r.ringed, c.requires.room)))
+    let long = length_shares a.layout.rings.now a.layout.sizes.now a.layout.coords.now a.zone.row a.zone.at r.ringed in
+    rw shares (part_put a.quotas.now _ a.zone.at.piece a.zone.row.pieces long (omega (arith, r.ringed, c.requires.room)))

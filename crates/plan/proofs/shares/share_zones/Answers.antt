@@ -1,54 +1,57 @@
 -- `share_zones` writes the quotas of all pieces. Invariant: those of the zones left are still to be put.
 -- Rests on what its calls ensure and one turn of a walk over rows.
 use mathlib.Core.Path.{◌≡◌, refl, sym, ap, ◌∙◌}
-use Prim.Native.Nat.{ℕ, ◌+◌}
+use Prim.Native.Nat.{◌+◌}
 use native.Mathlib.Omega.{arith}
-use lib.ListN.{length, get_or}
-use lib.Seq.{length-sets}
-use Rattle.discs.specs.Floor.{past_row}
-use Rattle.plan.specs.Rows.{Readable, length_shares, past_piece, no_row, each_turn, flat_turn, flat_end}
+use lib.ListN.{length}
+use lib.Seq.{sets, length-sets}
+use Rattle.discs.specs.ZoneWalk.{each_turn}
+use Rattle.discs.specs.declared.rows.Offsets.{Offsets}
+use Rattle.plan.specs.Rows.{Readable, length_shares, next_piece, flat_turn, flat_end}
 use Rattle.plan.specs.Bundled.{zone_shares}
 use Rattle.plan.proofs.shares.share_zones.Goals as goal
 
-pub loop-row-init : goal.loop-row-init
-loop-row-init c = (refl, c.args.layout.readable, refl)
+pub loop-zone-init : goal.loop-zone-init
+loop-zone-init c =
+    let w = c.walk-zone-items.ensures in
+    rw c.into_iter-zone-iterator.ensures.into_iter_gives
+    (w.rings, w.sizes, refl, rw (w.rows, w.at) c.args.layout.readable, rw (w.rows, w.at) refl)
 
 pub share_zone-requires : goal.share_zone-requires
 share_zone-requires c =
-    let l = c.loop-row in
+    let i = c.loop-zone.invariant in
     let a = c.args.layout in
-    let t = each_turn a.rings.now a.sizes.now a.rows.now l.row-index l.at c.loop-row-test.true (Readable a.rings.now a.sizes.now a.coords.now) l.invariant.1 in
-    record { zone = t.0; room = omega (arith, l.invariant.0, c.requires) }
+    let step = rw (i.0, i.1) at c.in-Some.ensures.steps.step in
+    let t = each_turn (Readable a.rings.now a.sizes.now a.coords.now) step i.3 in
+    record { zone = t.0; room = omega (arith, i.2, c.requires) }
 
-pub past-at-requires : goal.past-at-requires
-past-at-requires c =
-    let l = c.loop-row in
-    let a = c.args.layout in
-    let t = each_turn a.rings.now a.sizes.now a.rows.now l.row-index l.at c.loop-row-test.true (Readable a.rings.now a.sizes.now a.coords.now) l.invariant.1 in
-    t.0
-
-pub loop-row-preserved : goal.loop-row-preserved
-loop-row-preserved c =
-    let l = c.loop-row in
+pub loop-zone-preserved : goal.loop-zone-preserved
+loop-zone-preserved c =
+    let l = c.loop-zone in
+    let i = l.invariant in
     let a = c.args.layout in
     let rings = a.rings.now in
     let sizes = a.sizes.now in
-    let more = c.loop-row-test.true in
-    let t = each_turn rings sizes a.rows.now l.row-index l.at more (Readable rings sizes a.coords.now) l.invariant.1 in
-    let row = get_or a.rows.now l.row-index no_row in
+    let zone = c.in-Some.zone in
+    let steps = c.in-Some.ensures.steps in
+    let step = rw (i.0, i.1) at steps.step in
+    let t = each_turn (Readable rings sizes a.coords.now) step i.3 in
     let view = zone_shares a in
-    let put = c.share_zone.ensures in
-    let long = length_shares rings sizes a.coords.now row l.at t.0.ringed in
-    let m : (past_row rings sizes row l.at).piece ≡ l.at.piece + length (view row l.at) =
-    past_piece rings sizes row l.at ∙ ap (λ (n : ℕ). l.at.piece + n) (sym long) in
-    rw c.past-at.ensures (
-      rw put (length-sets l.quotas l.at.piece (view row l.at) ∙ l.invariant.0),
+    let long = length_shares rings sizes a.coords.now zone.row zone.at t.0.ringed in
+    let from : l.zone-iterator.at.piece ≡ zone.at.piece = ap (λ (o : Offsets). o.piece) step.here in
+    let put : c.share_zone.new.quotas ≡ sets l.quotas l.zone-iterator.at.piece (view zone.row zone.at) = rw from c.share_zone.ensures in
+    let far : zone.at.piece + zone.row.pieces ≡ l.zone-iterator.at.piece + length (view zone.row zone.at) = omega (arith, from, long) in (
+      steps.rings ∙ i.0,
+      steps.sizes ∙ i.1,
+      rw put (length-sets l.quotas l.zone-iterator.at.piece (view zone.row zone.at) ∙ i.2),
       t.1,
-      flat_turn rings sizes a.rows.now l.row-index l.at more view l.quotas _ l.at.piece _ m put l.invariant.2,
+      flat_turn step view l.quotas _ l.zone-iterator.at.piece _ (next_piece step ∙ far) put i.4,
     )
 
 pub returns : goal.returns
 returns c =
-    let l = c.loop-row in
+    let l = c.loop-zone in
+    let i = l.invariant in
     let a = c.args.layout in
-    sym (flat_end a.rings.now a.sizes.now a.rows.now l.row-index l.at c.loop-row-test.false (zone_shares a) l.quotas l.at.piece l.invariant.2)
+    let left = l.zone-iterator in
+    sym (flat_end a.rings.now a.sizes.now left.rows.now left.at c.in-None.ensures.steps.0 (zone_shares a) l.quotas left.at.piece i.4)

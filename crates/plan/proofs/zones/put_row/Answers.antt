@@ -22,11 +22,11 @@ returns-then-not-is_left_in c =
     let e = sym c.is_left_in.ensures ∙ c.if-not-is_left_in.true in
     let none =
     none_out p.numbers a.setting.size p.options p.obstacles.now
-    n.bytes.now n.rings.now n.sizes.now n.coords.now n.quotas.now n.deepest.now a.row a.at e in
+    n.bytes.now n.rings.now n.sizes.now n.coords.now n.quotas.now n.deepest.now a.zone.row a.zone.at e in
     record {
       put =
           bytes_out p.numbers a.setting.size p.options p.obstacles.now
-          n.bytes.now n.rings.now n.sizes.now n.coords.now n.quotas.now n.deepest.now a.row a.at a.done.at a.sheet.now e;
+          n.bytes.now n.rings.now n.sizes.now n.coords.now n.quotas.now n.deepest.now a.zone.row a.zone.at a.done.at a.sheet.now e;
       counted = omega (arith, none);
       room = omega arith;
       one = omega arith;
@@ -44,14 +44,14 @@ put_placement-to-requires c =
     let p = c.requires in
     let e = sym c.is_left_in.ensures ∙ c.if-not-is_left_in.false in
     let z = c.place_zone-placed.ensures in
-    let all = zone_spots a.setting a.zones a.row a.at in
+    let all = zone_spots a.setting a.zones a.zone.row a.zone.at in
     let most = p.fair e in
     let room = a.work.now.room_spots in
     let long =
     ap length z.spots
     ∙ length_written (flat (flatten all)) a.work.now.spots.now (omega (arith, length_joined all, most, p.zone.stands.marks, room)) in
     record {
-      room = omega (arith, z.counted, most, p.room, room_in a.row e);
+      room = omega (arith, z.counted, most, p.room, room_in a.zone.row e);
       key = p.zone.key;
       placed = omega (arith, z.counted, most);
       spots = omega (arith, z.counted, most, long, p.zone.stands.marks, room);
@@ -69,7 +69,7 @@ returns c =
     let p = c.requires in
     let e = sym c.is_left_in.ensures ∙ c.if-not-is_left_in.false in
     let z = c.place_zone-placed.ensures in
-    let all = zone_spots a.setting a.zones a.row a.at in
+    let all = zone_spots a.setting a.zones a.zone.row a.zone.at in
     let most = p.fair e in
     let room = a.work.now.room_spots in
     let long =
@@ -77,21 +77,21 @@ returns c =
     ∙ length_written (flat (flatten all)) a.work.now.spots.now (omega (arith, length_joined all, most, p.zone.stands.marks, room)) in
     let same =
     bytes_in k.numbers a.setting.size k.options k.obstacles.now
-    n.bytes.now n.rings.now n.sizes.now n.coords.now n.quotas.now n.deepest.now a.row a.at
+    n.bytes.now n.rings.now n.sizes.now n.coords.now n.quotas.now n.deepest.now a.zone.row a.zone.at
     c.place_zone-placed.result a.work.now.spots.now _ e z.counted z.spots in
     let b =
     bytes_count k.numbers a.setting.size k.options k.obstacles.now
-    n.bytes.now n.rings.now n.sizes.now n.coords.now n.quotas.now n.deepest.now a.row a.at
+    n.bytes.now n.rings.now n.sizes.now n.coords.now n.quotas.now n.deepest.now a.zone.row a.zone.at
     c.place_zone-placed.result a.work.now.spots.now _ e z.counted z.spots p.zone.key
     (omega (arith, z.counted, most, long, p.zone.stands.marks, room)) in
     let one =
     one_in k.numbers a.setting.size k.options k.obstacles.now
-    n.bytes.now n.rings.now n.sizes.now n.coords.now n.quotas.now n.deepest.now a.row a.at e in
+    n.bytes.now n.rings.now n.sizes.now n.coords.now n.quotas.now n.deepest.now a.zone.row a.zone.at e in
     let w = rw same at c.put_placement-to.ensures in
     record {
       put = w;
       counted = omega (arith, one);
-      room = omega (arith, w.ends, b, z.counted, most, room_in a.row e);
+      room = omega (arith, w.ends, b, z.counted, most, room_in a.zone.row e);
       one = omega arith;
       same = record { lent = z.same.lent; spots = z.same.spots; spots_long = search rules };
     }

@@ -2,7 +2,7 @@
 -- Rests on what its calls ensure and one turn of a walk over rows.
 use mathlib.Core.Path.{◌≡◌}
 use Prim.Native.Nat.{◌+◌, ◌≤◌}
-use lib.ListN.{length, drop}
+use lib.ListN.{length}
 use lib.Seq.{sets}
 use Rattle.discs.specs.Floor.{EachRow}
 use Rattle.discs.specs.Bundles.{IsPackable, SameWork}
@@ -11,19 +11,21 @@ use Rattle.plan.specs.Rows.{flat_rows}
 use Rattle.plan.specs.Bundled.{zone_placed, zone_bytes, ZoneFair, all_placed, all_bytes}
 use Rattle.plan.proofs.zones.put_zones.Given as goal
 
-abbrev pub invariant-loop-row : goal.invariant-loop-row
-invariant-loop-row l =
+abbrev pub invariant-loop-zone : goal.invariant-loop-zone
+invariant-loop-zone l =
     let rings = l.zones.rings.now in
     let sizes = l.zones.sizes.now in
-    let left = drop l.row-index l.zones.rows.now in
-    let bytes_left = flat_rows rings sizes (zone_bytes l.setting l.zones) left l.at in
-    let zones_left = flat_rows rings sizes (zone_placed l.setting l.zones) left l.at in
-    SameWork l.initial.work l.work
+    let left = l.zone-iterator in
+    let bytes_left = flat_rows rings sizes (zone_bytes l.setting l.zones) left.rows.now left.at in
+    let zones_left = flat_rows rings sizes (zone_placed l.setting l.zones) left.rows.now left.at in
+    (left.rings.now ≡ rings)
+    × (left.sizes.now ≡ sizes)
+    × SameWork l.initial.work l.work
     × (length l.sheet ≡ length l.initial.sheet)
-    × (l.done.zones ≤ l.row-index)
-    × EachRow rings sizes (IsPackable l.zones) left l.at
-    × EachRow rings sizes (ZoneFair l.setting l.zones) left l.at
-    × (l.done.at + rows_room left ≤ 15 + rows_room l.zones.rows.now)
+    × (l.done.zones + length left.rows.now ≤ length l.zones.rows.now)
+    × EachRow rings sizes (IsPackable l.zones) left.rows.now left.at
+    × EachRow rings sizes (ZoneFair l.setting l.zones) left.rows.now left.at
+    × (l.done.at + rows_room left.rows.now ≤ 15 + rows_room l.zones.rows.now)
     × (15 + length (all_bytes l.setting l.zones) ≡ l.done.at + length bytes_left)
     × (length (all_placed l.setting l.zones) ≡ l.done.zones + length zones_left)
     × (sets l.initial.sheet 15 (all_bytes l.setting l.zones) ≡ sets l.sheet l.done.at bytes_left)

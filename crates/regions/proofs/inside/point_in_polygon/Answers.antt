@@ -1,8 +1,7 @@
--- `point_in_polygon` meets its contract. The invariant: the flag is that of the definition after `i` turns.
+-- `point_in_polygon` meets its contract. The invariant: the flag is that of the definition after the turns of the blocks.
 -- Rests on the law of the first turn and the contracts of what it calls.
 use Prim.Native.Nat.{◌/◌}
 use lib.ListN.{length}
-use borrow.Author.Rules.{rules}
 use borrow.Author.Tests.{lt-ltb, le-ltb}
 use Rattle.regions.specs.Inside.{point_in_polygon}
 use Rattle.regions.specs.Sides.{first_turn}
@@ -12,10 +11,10 @@ pub returns-then-n-lt3 : goal.returns-then-n-lt3
 unfolding point_in_polygon
 returns-then-n-lt3 c = rw (lt-ltb _ _ c.if-n-lt3.true)
 
-pub loop-i-init : goal.loop-i-init
-loop-i-init c =
+pub loop-block-init : goal.loop-block-init
+loop-block-init c =
     let a = c.args in
-    (search rules, search rules, search rules, cc (first_turn a.x a.y a.v.now (length a.v.now / 2)))
+    cc (first_turn a.x a.y a.v.now (length a.v.now / 2))
 
 pub returns : goal.returns
 unfolding point_in_polygon

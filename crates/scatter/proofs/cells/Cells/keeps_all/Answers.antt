@@ -1,32 +1,44 @@
--- `keeps_all` meets its contract. The invariant: the answer is that of the spots from this block on.
--- Rests on the laws of `all` over a block, and of a slice's part.
-use mathlib.Core.Path.{◌≡◌, sym, ◌∙◌}
-use Prim.Native.Nat.{◌+◌, ◌-◌, ◌*◌, ◌/◌}
-use native.Mathlib.Omega.{arith}
-use lib.ListN.{length, take, drop, length-drop}
-use lib.Seq.{take_all}
-use Rattle.laws.specs.Blocks.{all_block}
-use Rattle.glyphs.specs.Spots.{spots_drop}
+-- `keeps_all` meets its contract. The invariant: the answer is that of the blocks left and of the rest.
+-- Rests on the laws of a test of each element in turn, and of a list cut into blocks.
+use Rattle.std.proofs.Common.{◌≡◌, ℕ, ◌+◌, ◌/◌, ◌<◌, Bool, true, false, ◌&&◌, List, length, get_or, drop, sym, ap, ◌∙◌}
+use Rattle.laws.specs.Any.{all, all_step, all_end}
+use Rattle.scatter.specs.Cells.{keeps_block, keeps_cut}
 use Rattle.scatter.proofs.cells.Cells.keeps_all.Goals as goal
+
+module _ {A : Type 0} (p : A → Bool) (l : List A) (i : ℕ) (d : A) (more : i < length l) (rest : Bool) where
+  stops : p (get_or l i d) ≡ false → all p (drop i l) && rest ≡ false
+  stops e = rw (all_step p l i d more, e)
+
+  goes_on : p (get_or l i d) ≡ true → all p (drop i l) && rest ≡ all p (drop (i + 1) l) && rest
+  goes_on e = rw (all_step p l i d more, e)
+
+pub loop-block-init : goal.loop-block-init
+loop-block-init c =
+    let a = c.args in
+    let cut = c.as_chunks.ensures in
+    rw (cut.front, cut.back) (keeps_cut a.self.now a.p (length a.spots.now / 16) a.spots.now)
 
 pub returns-then-not-keeps_eight : goal.returns-then-not-keeps_eight
 returns-then-not-keeps_eight c =
-    let e = c.keeps_eight in
-    rw (c.loop-block.invariant, all_block _ 8 _ _, ← e.ensures, c.if-not-keeps_eight.true)
+    let l = c.loop-block in
+    let keeps = keeps_block c.args.self.now c.args.p in
+    let cut = c.as_chunks.result in
+    sym (l.invariant
+    ∙ stops keeps cut.0.now l.block-index _ c.loop-block-test.true (keeps cut.1.now) (sym c.keeps_eight.ensures ∙ c.if-not-keeps_eight.true))
 
 pub loop-block-preserved : goal.loop-block-preserved
 loop-block-preserved c =
-    let e = c.keeps_eight in
     let l = c.loop-block in
-    let next : (l.block + 1) * 8 ≡ l.block * 8 + 8 = omega arith in
-    rw (next, l.invariant, all_block _ 8 _ _, ← e.ensures, c.if-not-keeps_eight.false)
+    let keeps = keeps_block c.args.self.now c.args.p in
+    let cut = c.as_chunks.result in
+    l.invariant
+    ∙ goes_on keeps cut.0.now l.block-index _ c.loop-block-test.true (keeps cut.1.now) (sym c.keeps_eight.ensures ∙ c.if-not-keeps_eight.false)
 
 pub returns : goal.returns
+unfolding all
 returns c =
     let l = c.loop-block in
-    let s = c.args.spots.now in
-    let a = length s / 16 * 16 in
-    let done : l.block ≡ length s / 16 = omega (arith, l.auto.block-end, c.loop-block-test.false) in
-    let rest : take (length s - a) (drop a s) ≡ drop a s = take_all (length s - a) (drop a s) (simp length-drop (omega arith)) in
-    let twice : a ≡ length s / 16 * 8 * 2 = omega arith in
-    c.keeps_each.ensures ∙ rw (rest, twice, spots_drop (length s / 16 * 8) s) (rw done at (sym l.invariant))
+    let keeps = keeps_block c.args.self.now c.args.p in
+    let cut = c.as_chunks.result in
+    c.keeps_each.ensures
+    ∙ sym (l.invariant ∙ ap (λ (b : Bool). b && keeps cut.1.now) (all_end keeps cut.0.now l.block-index c.loop-block-test.false))

@@ -1,13 +1,11 @@
--- `keeps_all` meets its contract. The invariant: the answer is that of the spots from this block on.
--- Rests on the laws of `all` over a block, and of a slice's part.
-use mathlib.Core.Path.{◌≡◌}
-use Prim.Native.Nat.{◌*◌}
-use lib.ListN.{drop}
+-- `keeps_all` meets its contract. The invariant: the answer is that of the blocks left and of the rest.
+-- Rests on the laws of a test of each element in turn, and of a list cut into blocks.
+use Rattle.std.proofs.Common.{◌≡◌, ◌&&◌, drop}
 use Rattle.laws.specs.Any.{all}
-use Rattle.glyphs.specs.Spots.{spots_of}
-use Rattle.scatter.specs.Cells.{keeps}
+use Rattle.scatter.specs.Cells.{keeps_block}
 use Rattle.scatter.proofs.cells.Cells.keeps_all.Given as goal
 
 abbrev pub invariant-loop-block : goal.invariant-loop-block
 invariant-loop-block l =
-    all (keeps l.self l.p) (spots_of l.spots) ≡ all (keeps l.self l.p) (drop (l.block * 8) (spots_of l.spots))
+    let keeps = keeps_block l.self l.p in
+    keeps l.spots ≡ all keeps (drop l.block-index l.blocks) && keeps l.rest
