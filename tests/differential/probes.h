@@ -43,15 +43,15 @@ _Bool probe_clearance_at_least(PIECE, double x, double y, double c);
 /* How many of the places have a clearance of at least c; measured by bench/, and compared there. */
 uint64_t probe_count_clear(PIECE, const double *places, size_t place_floats, double c);
 
-/* regions.rs point_in_polygon: 1 inside, 0 not. */
-uint8_t probe_point_in_polygon(const double *ring, size_t floats, double x, double y);
+/* regions.rs point_in_polygon: whether inside. */
+_Bool probe_point_in_polygon(const double *ring, size_t floats, double x, double y);
 
 /* regions.rs RegionPiece::area, 0 where it comes out below 0. */
 double probe_area(PIECE);
 
-/* glyphs.rs ring_bounds: 1 with min x, max x, min y, max y; 0 without bounds,
- * and then `bounds` is as it was. */
-uint8_t probe_ring_bounds(const double *ring, size_t floats, double bounds[4]);
+/* glyphs.rs ring_bounds: true with min x, max x, min y, max y; false without
+ * bounds, and then `bounds` is as it was. */
+_Bool probe_ring_bounds(const double *ring, size_t floats, double bounds[4]);
 
 /* glyphs.rs obstacles_near: near[k] becomes 1 where obstacle k is near, else
  * 0; the answer is how many are. near_length is the number of obstacles. */

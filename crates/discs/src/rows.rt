@@ -62,7 +62,8 @@ pub fn pieces_at<'a>(
     zone: ZoneAt,
 ) -> Pieces<'a>
     requires { Within rings.now sizes.now coords.now zone.row zone.at }
-    ensures pieces { pieces_left result ≡ pieces_of (cut zone.at.piece zone.row.pieces rings.now) (drop zone.at.ring sizes.now) (drop zone.at.coord coords.now) }
+    ensures pieces { pieces_left result
+        ≡ pieces_of (cut zone.at.piece zone.row.pieces rings.now) (drop zone.at.ring sizes.now) (drop zone.at.coord coords.now) }
     ensures rings { result.rings.now ≡ cut zone.at.piece zone.row.pieces rings.now }
 {
     let ZoneAt { row, at } = zone;

@@ -152,7 +152,8 @@ module _ {rings sizes : List ℕ} {rows rest : List Row} {at next : Offsets} {zo
       → x ≡ sets put m (flat_rows rings sizes view rest next)
   unfolding flat_rows
   flat_turn view l put j m i f g =
-      g ∙ rw (h.first, h.here, h.past) (sets_append l j (view zone.row zone.at) (flat_rows rings sizes view rest (past_row rings sizes zone.row zone.at)) ∙ rw (f, i))
+      let others = flat_rows rings sizes view rest (past_row rings sizes zone.row zone.at) in
+      g ∙ rw (h.first, h.here, h.past) (sets_append l j (view zone.row zone.at) others ∙ rw (f, i))
 
   pub length_turn :
       {A : Type 0} {x : ℕ} (view : Row → Offsets → List A) (j m : ℕ) → m ≡ j + length (view zone.row zone.at)

@@ -86,8 +86,8 @@ pub extern "C" fn probe_count_clear(sizes: &[usize], coords: &[f64], places: &[f
 }
 
 #[unsafe(no_mangle)]
-pub extern "C" fn probe_point_in_polygon(ring: &[f64], x: f64, y: f64) -> u8 {
-    u8::from(regions::inside::point_in_polygon(x, y, ring))
+pub extern "C" fn probe_point_in_polygon(ring: &[f64], x: f64, y: f64) -> bool {
+    regions::inside::point_in_polygon(x, y, ring)
 }
 
 #[unsafe(no_mangle)]
@@ -99,12 +99,12 @@ pub extern "C" fn probe_area(sizes: &[usize], coords: &[f64]) -> f64
 }
 
 #[unsafe(no_mangle)]
-pub extern "C" fn probe_ring_bounds(ring: &[f64], bounds: &mut [f64; 4]) -> u8 {
+pub extern "C" fn probe_ring_bounds(ring: &[f64], bounds: &mut [f64; 4]) -> bool {
     let Some(e) = glyphs::bounds::ring_bounds(ring) else {
-        return 0;
+        return false;
     };
     *bounds = [e.min_x, e.max_x, e.min_y, e.max_y];
-    1
+    true
 }
 
 // Sets the flags of the obstacles that are near, and answers how many they are.

@@ -63,8 +63,8 @@ of_piece! {
 }
 
 unsafe extern "C" {
-    pub fn probe_point_in_polygon(ring: *const f64, floats: usize, x: f64, y: f64) -> u8;
-    pub fn probe_ring_bounds(ring: *const f64, floats: usize, bounds: &mut [f64; 4]) -> u8;
+    pub fn probe_point_in_polygon(ring: *const f64, floats: usize, x: f64, y: f64) -> bool;
+    pub fn probe_ring_bounds(ring: *const f64, floats: usize, bounds: &mut [f64; 4]) -> bool;
 }
 
 macro_rules! packers {

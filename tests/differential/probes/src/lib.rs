@@ -107,12 +107,12 @@ impl<'a> Piece<'a> {
     }
 }
 
-pub fn point_in_polygon(ring: &[f64], x: f64, y: f64) -> u8 {
+pub fn point_in_polygon(ring: &[f64], x: f64, y: f64) -> bool {
     // SAFETY: the pointer comes with its slice's length.
     unsafe { probe_point_in_polygon(ring.as_ptr(), ring.len(), x, y) }
 }
 
-pub fn ring_bounds(ring: &[f64], bounds: &mut [f64; 4]) -> u8 {
+pub fn ring_bounds(ring: &[f64], bounds: &mut [f64; 4]) -> bool {
     // SAFETY: the pointer comes with its slice's length.
     unsafe { probe_ring_bounds(ring.as_ptr(), ring.len(), bounds) }
 }

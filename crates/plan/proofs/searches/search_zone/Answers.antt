@@ -23,20 +23,22 @@ pub returns-then-not-is_left_in : goal.returns-then-not-is_left_in
 unfolding found_at
 returns-then-not-is_left_in c =
     let a = c.args in
+    let row = a.zone.row in
+    let at = a.zone.at in
     let r = c.requires.zone in
-    let room : a.zone.at.piece + a.zone.row.pieces ≤ length a.deepest.now = omega (arith, r.ringed, c.requires.room) in
-    let pieces = pieces_at a.layout.rings.now a.layout.sizes.now a.layout.coords.now a.zone.row a.zone.at in
-    let count : length pieces ≡ a.zone.row.pieces =
-    length_pieces (cut a.zone.at.piece a.zone.row.pieces a.layout.rings.now) (drop a.zone.at.ring a.layout.sizes.now) (drop a.zone.at.coord a.layout.coords.now)
-    ∙ length_cut a.zone.at.piece a.zone.row.pieces a.layout.rings.now r.ringed in
-    let n = length_cut a.zone.at.piece a.zone.row.pieces a.quotas.now (omega (arith, r.ringed, c.requires.quotas)) in
-    let few : length pieces ≤ length (cut a.zone.at.piece a.zone.row.pieces a.quotas.now) = omega (arith, count, n) in
-    let none = left_out a.options pieces (cut a.zone.at.piece a.zone.row.pieces a.quotas.now) few in
-    let filled : c.fill.new.self ≡ replicate a.zone.row.pieces Nothing =
-    c.fill.ensures.after (λ y h. h) ∙ rw (cut_is a.zone.at.piece a.zone.row.pieces a.deepest.now, length_cut a.zone.at.piece a.zone.row.pieces a.deepest.now room) in
+    let room : at.piece + row.pieces ≤ length a.deepest.now = omega (arith, r.ringed, c.requires.room) in
+    let pieces = pieces_at a.layout.rings.now a.layout.sizes.now a.layout.coords.now row at in
+    let count : length pieces ≡ row.pieces =
+    length_pieces (cut at.piece row.pieces a.layout.rings.now) (drop at.ring a.layout.sizes.now) (drop at.coord a.layout.coords.now)
+    ∙ length_cut at.piece row.pieces a.layout.rings.now r.ringed in
+    let n = length_cut at.piece row.pieces a.quotas.now (omega (arith, r.ringed, c.requires.quotas)) in
+    let few : length pieces ≤ length (cut at.piece row.pieces a.quotas.now) = omega (arith, count, n) in
+    let none = left_out a.options pieces (cut at.piece row.pieces a.quotas.now) few in
+    let filled : c.fill.new.self ≡ replicate row.pieces Nothing =
+    c.fill.ensures.after (λ y h. h) ∙ rw (cut_is at.piece row.pieces a.deepest.now, length_cut at.piece row.pieces a.deepest.now room) in
     rw (← c.is_left_in.ensures, c.if-not-is_left_in.true, none, count, filled) (record {
-      fits = sym (none_fit a.zone.row.pieces);
-      put = λ e. part_put a.deepest.now (replicate a.zone.row.pieces Nothing) a.zone.at.piece a.zone.row.pieces (length-replicate a.zone.row.pieces Nothing) room;
+      fits = sym (none_fit row.pieces);
+      put = λ e. part_put a.deepest.now (replicate row.pieces Nothing) at.piece row.pieces (length-replicate row.pieces Nothing) room;
     })
 
 pub returns : goal.returns

@@ -58,7 +58,7 @@ pub fn inside(run: &Run) -> Tally {
         for [x, y] in input.places(rng) {
             let given = probes::point_in_polygon(input.outer(), x, y);
             let wanted = layers::point_in_polygon(x, y, &input.piece.outer);
-            judge(given == u8::from(wanted));
+            judge(given == wanted);
         }
     })
 }
@@ -74,8 +74,8 @@ pub fn bounds(run: &Run) -> Tally {
         let mut given = [MARK; 4];
         let tag = probes::ring_bounds(input.outer(), &mut given);
         let wanted = match layers::ring_bounds(input.piece.outer.vertices()) {
-            Some((min_x, max_x, min_y, max_y)) => (1, [min_x, max_x, min_y, max_y]),
-            None => (0, [MARK; 4]),
+            Some((min_x, max_x, min_y, max_y)) => (true, [min_x, max_x, min_y, max_y]),
+            None => (false, [MARK; 4]),
         };
         judge(tag == wanted.0 && same_floats(&given, &wanted.1));
     })
