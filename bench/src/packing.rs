@@ -8,19 +8,19 @@ use probes::Piece;
 pub struct Zone {
     pub piece: RegionPiece,
     sizes: [u64; 1],
-    coords: Vec<f64>,
+    points: Vec<[f64; 2]>,
 }
 
 impl Zone {
     pub fn star(edges: usize, bits: &mut Bits) -> Zone {
         let rings = vec![star(edges, bits)];
-        let coords = rings.iter().flatten().flatten().map(|v| judge::units(*v)).collect();
-        Zone { piece: judge::piece_of(&rings), sizes: [edges as u64], coords }
+        let points = rings.iter().flatten().map(|vertex| vertex.map(judge::units)).collect();
+        Zone { piece: judge::piece_of(&rings), sizes: [edges as u64], points }
     }
 
     /// The piece as the port is lent it.
     pub fn lent(&self) -> Piece<'_> {
-        Piece::new(&self.sizes, &self.coords)
+        Piece::new(&self.sizes, &self.points)
     }
 
     /// The port's spots, and the stream after them.

@@ -1,10 +1,9 @@
 /* The inner layers of the port, one by one, for tests/differential and bench
  * alone; probes/src/c.rs declares them for Rust.
  *
- * A piece is its ring sizes, the outer ring first, and the coordinates of its
- * vertices, x and y in turn, ring after ring: `floats` is twice the sum of the
- * sizes. A ring on its own is its coordinates. Obstacles have positive width and
- * height.
+ * A piece is its ring sizes, the outer ring first, and its vertices, ring after
+ * ring: there are as many points as the sizes sum up to. A ring on its own is its
+ * vertices. Obstacles have positive width and height.
  * Work slices are of 8,000 floats each unless a comment says otherwise.
  *
  * All floats are compared by their bits, NaNs as equal.
@@ -15,6 +14,7 @@
 #include <stddef.h>
 #include <stdint.h>
 
+typedef struct { double x, y; } probe_point;
 typedef struct { double center_x, center_y, width, height; } probe_rectangle;
 
 /* What a packer is told. */
@@ -26,7 +26,8 @@ typedef struct {
 } probe_packing;
 
 #define PIECE                                                                  \
-    const uint64_t *ring_sizes, size_t rings, const double *coords, size_t floats
+    const uint64_t *ring_sizes, size_t rings,                                  \
+    const probe_point *points, size_t point_count
 #define OBSTACLES const probe_rectangle *obstacles, size_t obstacle_count
 #define WORK                                                                   \
     double *first, size_t first_length, double *second, size_t second_length
@@ -34,24 +35,26 @@ typedef struct {
 /* regions.rs signed_clearance. */
 double probe_signed_clearance(PIECE, double x, double y);
 
-/* The same of four places, x and y in turn, at once. */
-void probe_four_clearances(PIECE, const double places[8], double found[4]);
+/* The same of four places at once. */
+void probe_four_clearances(PIECE, const probe_point places[4], double found[4]);
 
 /* Whether that is at least c; measured by bench/, and compared there. */
 _Bool probe_clearance_at_least(PIECE, double x, double y, double c);
 
 /* How many of the places have a clearance of at least c; measured by bench/, and compared there. */
-uint64_t probe_count_clear(PIECE, const double *places, size_t place_floats, double c);
+uint64_t probe_count_clear(PIECE, const probe_point *places, size_t place_count, double c);
 
 /* regions.rs point_in_polygon: whether inside. */
-_Bool probe_point_in_polygon(const double *ring, size_t floats, double x, double y);
+_Bool probe_point_in_polygon(const probe_point *ring, size_t point_count,
+                             double x, double y);
 
 /* regions.rs RegionPiece::area, 0 where it comes out below 0. */
 double probe_area(PIECE);
 
 /* glyphs.rs ring_bounds: true with min x, max x, min y, max y; false without
  * bounds, and then `bounds` is as it was. */
-_Bool probe_ring_bounds(const double *ring, size_t floats, double bounds[4]);
+_Bool probe_ring_bounds(const probe_point *ring, size_t point_count,
+                        double bounds[4]);
 
 /* glyphs.rs obstacles_near: near[k] becomes 1 where obstacle k is near, else
  * 0; the answer is how many are. near_length is the number of obstacles. */

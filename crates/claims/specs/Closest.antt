@@ -40,7 +40,8 @@ spread B F = omega arith
 -- ---- (P, Q) leads from a point of the edge's line to the place, and (dx, dy) along the edge, dy of size w
 sum_up :
     (AA CC Ac BF BB X Y A' B' : Exact) (a b c m r : ℕ)
-    → X ≈ AA ⊕ CC ⊖ Ac ⊖ Ac → Y ≈ BF ⊕ BB → Ac ≈ BF → AA ≈ A' → A' ≈ nat a → BB ≈ B' → B' ≈ nat b → nat c ≈ CC → X ≼ nat m → Y ≼ nat r → a + b ≤ m + 2 * r
+    → X ≈ AA ⊕ CC ⊖ Ac ⊖ Ac → Y ≈ BF ⊕ BB → Ac ≈ BF → AA ≈ A' → A' ≈ nat a
+    → BB ≈ B' → B' ≈ nat b → nat c ≈ CC → X ≼ nat m → Y ≼ nat r → a + b ≤ m + 2 * r
 sum_up AA CC Ac BF BB X Y A' B' a b c m r e f g h h' i i' j k l = omega arith
 
 pub closest :

@@ -36,7 +36,7 @@ use Rattle.discs.specs.Region.{Zone, quotas, deepest_of, pack_low_discrepancy_pi
 use Rattle.discs.specs.Radius.{context_at}
 use Rattle.discs.specs.PlaceGlyphs.{is_left_in, work_of, pack, pack_at, size_for, sizing, place_glyphs}
 use Rattle.format.specs.Rows.{◌unless◌, ◌or_else◌, faults, past, each}
-use Rattle.format.specs.Numbers.{uint, item, in_range, coord_in, coord_at, coord_of, share as part}
+use Rattle.format.specs.Numbers.{uint, item, in_range, coord_in, coord_at, coord_of, point_at, share as part}
 use Rattle.format.specs.Pieces.{ring, ring_fault, ring_end, piece, piece_fault, piece_end}
 use Rattle.job.specs.Head.{lent_fault, number_after, choices_fault, measures_fault, head_fault, arrangement_of, policy_of, radius_of, boundary_of, options_of}
 use Rattle.job.specs.Head.{obstacles, obstacles_fault, obstacles_end}
@@ -103,20 +103,20 @@ options =
     }
 
 abbrev pub square : Zone
-square = record { key = 65 ∷ []; count = 2; pieces = ((0ᶠ ∷ 0ᶠ ∷ 12ᶠ ∷ 0ᶠ ∷ 12ᶠ ∷ 12ᶠ ∷ 0ᶠ ∷ 12ᶠ ∷ []) ∷ []) ∷ [] }
+square = record { key = 65 ∷ []; count = 2; pieces = ((point 0ᶠ 0ᶠ ∷ point 12ᶠ 0ᶠ ∷ point 12ᶠ 12ᶠ ∷ point 0ᶠ 12ᶠ ∷ []) ∷ []) ∷ [] }
 
 abbrev pub said : Job
 said = record { options = options; obstacles = 6ᶠ ∷ 4ᶠ ∷ 2ᶠ ∷ 2ᶠ ∷ []; zones = square ∷ [] }
 
 pub says : job_of job ≡ said
 unfolding job job_of options_of arrangement_of policy_of radius_of boundary_of obstacles obstacles_end zones zone key_at count_at zone_end piece piece_end ring
-    ring_end coord_at coord_of part uint each past Ieee.of_bits Ieee.of_fields Ieee.odd Ieee.climb Ieee.span Ieee.size Ieee.units Ieee.round Ieee.neg
+    ring_end point_at coord_at coord_of part uint each past Ieee.of_bits Ieee.of_fields Ieee.odd Ieee.climb Ieee.span Ieee.size Ieee.units Ieee.round Ieee.neg
     Ieee.div Ieee.of_int
 says = refl
 
 -- ---- what is placed
 abbrev pub corner : Piece
-corner = (0ᶠ ∷ 0ᶠ ∷ 12ᶠ ∷ 0ᶠ ∷ 12ᶠ ∷ 12ᶠ ∷ 0ᶠ ∷ 12ᶠ ∷ []) ∷ []
+corner = (point 0ᶠ 0ᶠ ∷ point 12ᶠ 0ᶠ ∷ point 12ᶠ 12ᶠ ∷ point 0ᶠ 12ᶠ ∷ []) ∷ []
 
 abbrev pub pillar : Rectangle
 pillar = record { center = point 6ᶠ 4ᶠ; width = 2ᶠ; height = 2ᶠ }

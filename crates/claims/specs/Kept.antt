@@ -11,8 +11,8 @@ use Rattle.rounding.proofs.SpacingApart.{spacing}
 use Rattle.glyphs.specs.declared.rect.Point.{Point}
 use Rattle.glyphs.specs.declared.rect.Rectangle.{Rectangle}
 use Rattle.glyphs.specs.Rect.{clear_of_obstacles}
+use Rattle.glyphs.specs.Spots.{squared_distance}
 use Rattle.regions.specs.Ring.{Piece}
-use Rattle.lattice.specs.Escape.{squared_distance}
 use Rattle.claims.specs.Claim.{Inset}
 
 -- the computed test of all obstacles

@@ -19,10 +19,9 @@ use Rattle.float.specs.Laws.Compare.{not_lt_le}
 use Rattle.glyphs.specs.declared.rect.Point.{Point}
 use Rattle.glyphs.specs.declared.rect.Rectangle.{Rectangle}
 use Rattle.glyphs.specs.Rect.{clear_of_obstacles, is_finite}
-use Rattle.glyphs.specs.Spots.{apart}
+use Rattle.glyphs.specs.Spots.{squared_distance, apart}
 use Rattle.regions.specs.Ring.{Piece}
 use Rattle.regions.specs.Clearance.{signed_clearance}
-use Rattle.lattice.specs.Escape.{squared_distance}
 use Rattle.relax.specs.declared.Spreading.{Spreading}
 use Rattle.relax.specs.declared.distances.Distances.{Distances}
 use Rattle.relax.specs.Field.{field_of, at, force_on, accepts, clear_of_others}
@@ -60,22 +59,22 @@ either true b t e = let z : true ≡ false = e in absurd (subst T z tt)
 either false b t e = t
 
 module _ (spacing : Float) (R : Point → Point → Type 0) (near : (p q : Point) → T (squared_distance p q ≥ᶠ spacing *ᶠ spacing) → R p q) (c : Point) where
-  beyond : (i j : ℕ) (qs : List Point) → i < j → T (clear_of_others c.x c.y (spacing *ᶠ spacing) i j qs) → Every (R c) qs
+  beyond : (i j : ℕ) (qs : List Point) → i < j → T (clear_of_others c (spacing *ᶠ spacing) i j qs) → Every (R c) qs
   unfolding clear_of_others apart
   beyond i j [] h t = tt
   beyond i j (q ∷ qs) h t =
-      let s = split (eqb j i || squared_distance c q ≥ᶠ spacing *ᶠ spacing) (clear_of_others c.x c.y (spacing *ᶠ spacing) i (j + 1) qs) t in
+      let s = split (eqb j i || squared_distance c q ≥ᶠ spacing *ᶠ spacing) (clear_of_others c (spacing *ᶠ spacing) i (j + 1) qs) t in
       (near c q (either (eqb j i) _ s.0 (ne_eqb j i (λ (e : j ≡ i). omega arith))), beyond i (j + 1) qs (omega arith) s.1)
 
-  others : (i j k : ℕ) (qs : List Point) → j + k ≡ i → T (clear_of_others c.x c.y (spacing *ᶠ spacing) i j qs) → Others R c k qs
+  others : (i j k : ℕ) (qs : List Point) → j + k ≡ i → T (clear_of_others c (spacing *ᶠ spacing) i j qs) → Others R c k qs
   unfolding clear_of_others apart
   others i j zero [] e t = tt
   others i j (suc k) [] e t = tt
   others i j zero (q ∷ qs) e t =
-      let s = split (eqb j i || squared_distance c q ≥ᶠ spacing *ᶠ spacing) (clear_of_others c.x c.y (spacing *ᶠ spacing) i (j + 1) qs) t in
+      let s = split (eqb j i || squared_distance c q ≥ᶠ spacing *ᶠ spacing) (clear_of_others c (spacing *ᶠ spacing) i (j + 1) qs) t in
       beyond i (j + 1) qs (omega arith) s.1
   others i j (suc k) (q ∷ qs) e t =
-      let s = split (eqb j i || squared_distance c q ≥ᶠ spacing *ᶠ spacing) (clear_of_others c.x c.y (spacing *ᶠ spacing) i (j + 1) qs) t in
+      let s = split (eqb j i || squared_distance c q ≥ᶠ spacing *ᶠ spacing) (clear_of_others c (spacing *ᶠ spacing) i (j + 1) qs) t in
       (near c q (either (eqb j i) _ s.0 (ne_eqb j i (λ (f : j ≡ i). omega arith))), others i (j + 1) k qs (omega arith) s.1)
 
 -- ---- the sweeps
@@ -108,7 +107,7 @@ module _
   judged : (i : ℕ) (honor : Bool) (points : List Point) (c : Point) → Judged i honor points c (accepts field piece obstacles c i points honor)
   unfolding accepts field_of
   judged i honor points c =
-      go (signed_clearance c.x c.y piece <ᶠ inset) honor (clear_of_obstacles c.x c.y obstacles inset) (clear_of_others c.x c.y (spacing *ᶠ spacing) i 0 points)
+      go (signed_clearance c.x c.y piece <ᶠ inset) honor (clear_of_obstacles c.x c.y obstacles inset) (clear_of_others c (spacing *ᶠ spacing) i 0 points)
       (λ t. not_lt_le inset (signed_clearance c.x c.y piece) inset-known (known c.x c.y) t) (λ t. t) (λ t. others spacing R near c i 0 i points (omega arith) t)
     where
       go : (low h u o : Bool) → (T (not low) → Inset piece inset c) → (T u → Unblocked obstacles inset c) → (T o → Others R c i points)

@@ -21,10 +21,10 @@ use Rattle.glyphs.specs.declared.rect.Point.{Point}
 use Rattle.glyphs.specs.declared.rect.Rectangle.{Rectangle}
 use Rattle.glyphs.specs.declared.bounds.Extents.{Extents}
 use Rattle.glyphs.specs.Bounds.{ring_bounds}
+use Rattle.glyphs.specs.Spots.{squared_distance}
 use Rattle.regions.specs.Ring.{Piece, outer}
 use Rattle.lattice.specs.declared.context.PackCtx.{PackCtx}
 use Rattle.lattice.specs.Context.{inset, spacing}
-use Rattle.lattice.specs.Escape.{squared_distance}
 use Rattle.lattice.specs.Uniform.{local_to}
 use Rattle.scatter.specs.LowDiscrepancy.{sameℤ, beside, cell_number, apart, passes, pack_within, pack_scatter}
 use Rattle.claims.specs.Kept.{Kept, none_kept, kept_by, Sited, Apart, apart_sym, computed_apart}

@@ -13,13 +13,14 @@ use Rattle.float.specs.Laws.Compare.{not_lt_le}
 use Rattle.glyphs.specs.declared.rect.Point.{Point}
 use Rattle.glyphs.specs.declared.rect.Rectangle.{Rectangle}
 use Rattle.glyphs.specs.Rect.{clear_of_obstacles}
+use Rattle.glyphs.specs.Spots.{squared_distance}
 use Rattle.regions.specs.Ring.{Piece}
 use Rattle.regions.specs.Clearance.{signed_clearance}
 use Rattle.regions.specs.Facts.{clearance_number}
 use Rattle.deepest.specs.declared.search.Deepest.{Deepest}
 use Rattle.deepest.specs.declared.search.Deepest.TheVariants.{Found, Nothing, Full}
 use Rattle.lattice.specs.declared.escape.Exit.{Exit}
-use Rattle.lattice.specs.Escape.{point, squared_distance, 1e-9ᶠ, better, exits, consider, or_anchor, best_exit, escape_obstacles}
+use Rattle.lattice.specs.Escape.{point, 1e-9ᶠ, better, exits, consider, or_anchor, best_exit, escape_obstacles}
 use Rattle.lattice.specs.Uniform.{anchor_of}
 use Rattle.claims.specs.Kept.{Fits, Stands, Sited}
 

@@ -14,11 +14,12 @@ use Rattle.glyphs.specs.declared.stream.Stream.{Stream}
 use Rattle.glyphs.specs.Stream.{random_range}
 use Rattle.float.specs.Ops.{◌*ᶠ◌, ◌≥ᶠ◌}
 use Rattle.glyphs.specs.Rect.{clear_of_obstacles}
+use Rattle.glyphs.specs.Spots.{squared_distance}
 use Rattle.regions.specs.Ring.{Piece}
 use Rattle.regions.specs.Clearance.{signed_clearance}
 use Rattle.lattice.specs.declared.context.PackCtx.{PackCtx}
 use Rattle.lattice.specs.Context.{inset, spacing}
-use Rattle.lattice.specs.Escape.{point, squared_distance}
+use Rattle.lattice.specs.Escape.{point}
 use Rattle.scatter.specs.LowDiscrepancy.{budget, candidate, apart, admits, pass, passes}
 use Rattle.scatter.specs.Random.{Thrown, Dart, hit, miss, after_dart, lands, throw, glyphs, throws}
 use Rattle.claims.specs.Kept.{Unblocked, Fits, Stands, Kept, none_kept, less_kept}

@@ -1,6 +1,6 @@
 -- A place inside a piece of a job's coordinates is within 5,120 across and 1,024 along; so is one whose clearance is an inset above 0.
 -- Rests on the crossings left and right of a place inside, and on their sizes.
-use Rattle.std.specs.Prelude.{◌≡◌, refl, Bool, true, false, not, ◌&&◌, List, [], ◌∷◌, ℕ, zero, suc, ◌+◌, ◌*◌, ◌<◌, T, length, get_or, Float}
+use Rattle.std.specs.Prelude.{◌≡◌, refl, Bool, true, false, not, ◌&&◌, List, [], ◌∷◌, ℕ, zero, suc, ◌<◌, T, length, get_or, Float}
 use Rattle.std.proofs.Common.{arith, T_not}
 use Rattle.std.specs.Float.{binary64}
 use Rattle.std.specs.Float.Ieee.{fits}
@@ -9,14 +9,14 @@ use Rattle.float.specs.Ops.{◌<ᶠ◌, ◌≤ᶠ◌, 0ᶠ}
 use Rattle.float.specs.Laws.Nan.{lt_number}
 use Rattle.float.specs.Laws.Compare.{lt_le, not_lt_le}
 use Rattle.rounding.specs.Bounds.{Sized, ranged}
-use Rattle.glyphs.specs.Points.{Ring, vertices, x_at, y_at}
+use Rattle.glyphs.specs.Points.{Ring, nowhere, vertices, x_at, y_at}
 use Rattle.regions.specs.Ring.{Piece, prev, outer, holes}
 use Rattle.regions.specs.Inside.{point_in_polygon}
 use Rattle.regions.specs.Clearance.{within, in_any, signed_clearance}
 use Rattle.regions.specs.Facts.{outside}
 use Rattle.regions.specs.Sizes.{sized_number}
 use Rattle.format.specs.Exact.{Coordinate}
-use Rattle.format.specs.Known.{All, RingKnown, PieceKnown}
+use Rattle.format.specs.Known.{All, PointKnown, RingKnown, PieceKnown}
 use Rattle.claims.specs.Straddle.{Edge, inside_between}
 use Rattle.claims.specs.Crossing.{Crossed, crossed, spans}
 
@@ -28,10 +28,10 @@ all_at P (x ∷ xs) d a (suc i) h = all_at P xs d a.1 i (omega arith)
 
 module _ (v : Ring) (r : RingKnown v) where
   pub vertex_x : (i : ℕ) → i < vertices v → Coordinate (x_at v i)
-  vertex_x i h = all_at Coordinate v _ r.coords (i * 2) (omega (arith, r.pairs))
+  vertex_x i h = (all_at PointKnown v nowhere r.points i h).x
 
   pub vertex_y : (i : ℕ) → i < vertices v → Coordinate (y_at v i)
-  vertex_y i h = all_at Coordinate v _ r.coords (i * 2 + 1) (omega (arith, r.pairs))
+  vertex_y i h = (all_at PointKnown v nowhere r.points i h).y
 
 pub prev_within : (n k : ℕ) → k < n → prev n k < n
 unfolding prev

@@ -1,6 +1,7 @@
 -- regions.rs, `poi_with_holes`: the deepest point of one piece, and of the pieces of a zone. Definitions only.
 -- The cells that wait are a list in the order in which they leave. `room` is how many may wait at once.
-use Rattle.std.specs.Prelude.{ℕ, zero, suc, ◌+◌, ◌-◌, ◌*◌, Bool, false, cond, not, ◌&&◌, ◌||◌, Option, Some, None, List, [], ◌∷◌, length, nat_lt, Float}
+use Rattle.std.specs.Prelude.{ℕ, zero, suc, ◌+◌, ◌-◌, ◌*◌, Bool, false, cond, not, ◌&&◌}
+use Rattle.std.specs.Prelude.{◌||◌, Option, Some, None, List, [], ◌∷◌, length, nat_lt, Float}
 use mathlib.Core.List.{foldl}
 use Rattle.float.specs.Ops.{◌+ᶠ◌, ◌-ᶠ◌, ◌/ᶠ◌, ◌<ᶠ◌, ◌>ᶠ◌, ◌≤ᶠ◌, 0ᶠ, 2ᶠ}
 use Rattle.float.specs.Order.{min}

@@ -114,7 +114,8 @@ after a b c h k = omega arith
 
 -- a sum that rounding moves by a / e at most, less what it began above
 moved :
-    (e rp rn dp dn tp tn bp bn A a : ℕ) → 0 < e → a ≤ A * e → rp * e + (dn + tn) * e ≤ (dp + tp) * e + rn * e + a → dp + bn ≤ bp + dn → tp ≤ 3 * A
+    (e rp rn dp dn tp tn bp bn A a : ℕ) → 0 < e → a ≤ A * e → rp * e + (dn + tn) * e ≤ (dp + tp) * e + rn * e + a
+    → dp + bn ≤ bp + dn → tp ≤ 3 * A
     → rp + bn + 0 ≤ 4 * A + (rn + bp)
 moved e rp rn dp dn tp tn bp bn A a z h c l t = le_of_mul-le-mul_right {k = e} (omega (arith, mul-le-mul_right e l, mul-le-mul_right e t)) z
 
@@ -133,17 +134,22 @@ close_enough d b t p hd hb ht hp l m =
     let above = le→≼ d b hd.num hb.num l in
     let x = signed_le (sgn d) (mag d) in
     let y = signed_le (sgn t) (mag t) in
-    let error : abs (val d ⊕ val t) ≤ A * E = small ((val d).p + (val t).p) ((val d).n + (val t).n) (mag d) (mag t) A U u (omega (arith, x, y)) (omega (arith, x, y)) hd.size ht.most in
+    let error : abs (val d ⊕ val t) ≤ A * E =
+    small ((val d).p + (val t).p) ((val d).n + (val t).n) (mag d) (mag t) A U u (omega (arith, x, y)) (omega (arith, x, y)) hd.size ht.most in
     let below : val (d +ᶠ t -ᶠ b) ≼ nat (4 * A) =
     q.most false (4 * A) digits_4_a
-    (moved E (val (d +ᶠ t)).p (val (d +ᶠ t)).n (val d).p (val d).n (val t).p (val t).n (val b).p (val b).n A (abs (val d ⊕ val t)) (lit< tt) error s.close.above above
+    (moved E (val (d +ᶠ t)).p (val (d +ᶠ t)).n (val d).p (val d).n (val t).p (val t).n (val b).p (val b).n A (abs (val d ⊕ val t)) (lit< tt)
+    error
+    s.close.above
+    above
     (le_trans y.0 ht.most)) in
     ≼→le (d +ᶠ t -ᶠ b) p z.num hp (after (val (d +ᶠ t -ᶠ b)) (nat (4 * A)) (val p) below least)
 
 -- ---- the law of a cell: after 21 halvings it is not split
 pub not_split :
-    (h0 precision : Float) (c : Cell) (best : Best) → Sized h0 1024 → Num precision → T (1/1024ᶠ ≤ᶠ precision) → c.halvings ≡ 21 → Sized c.d 26067
-    → Sized best.d 26067 → T (bound_of (halves_from h0 22) c -ᶠ (better_of best c).d ≤ᶠ precision)
+    (h0 precision : Float) (c : Cell) (best : Best) → Sized h0 1024 → Num precision → T (1/1024ᶠ ≤ᶠ precision) → c.halvings ≡ 21
+    → Sized c.d 26067 → Sized best.d 26067
+    → T (bound_of (halves_from h0 22) c -ᶠ (better_of best c).d ≤ᶠ precision)
 unfolding bound_of better_of
 not_split h0 precision c best hh hp m e hc hb = go (best.d <ᶠ c.d) refl
   where

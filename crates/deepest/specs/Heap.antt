@@ -1,6 +1,7 @@
 -- A binary heap over the places 0..n, as a function from places to cells: no cell leaves before the one at its parent's place.
 -- Rests on the laws of the order of leaving.
-use Rattle.std.specs.Prelude.{◌≡◌, ℕ, zero, suc, ◌+◌, ◌-◌, ◌*◌, ◌/◌, ◌<◌, Bool, true, false, ◌⊎◌, List, ◌==◌, ◌≢◌, refl, Float}
+use Rattle.std.specs.Prelude.{◌≡◌, ℕ, zero, suc, ◌+◌, ◌-◌, ◌*◌, ◌/◌, ◌<◌, Bool}
+use Rattle.std.specs.Prelude.{true, false, ◌⊎◌, List, ◌==◌, ◌≢◌, refl, Float}
 use Rattle.std.proofs.Common.{sym, ap, ◌∙◌, subst, inl, inr, arith, eqb-true}
 use Rattle.std.proofs.lemmas.Bool.{eqb-false}
 use Rattle.std.proofs.Math.Arith.{lt_of_le-ne}
@@ -83,7 +84,8 @@ module _ (halves : List Float) where
 
         skip' : (k : ℕ) → 0 < k → k < n → parent k ≡ parent i → 0 < parent i → leaves halves (B k) (B (parent (parent i))) ≡ false
         skip' k a b p g =
-            let top : leaves halves (A (parent i)) (A (parent (parent i))) ≡ false = u.rest (parent i) g (omega arith) (λ f. omega arith) (λ f. omega arith) in
+            let top : leaves halves (A (parent i)) (A (parent (parent i))) ≡ false =
+            u.rest (parent i) g (omega arith) (λ f. omega arith) (λ f. omega arith) in
             let q : B (parent (parent i)) ≡ A (parent (parent i)) = w.there (parent (parent i)) (λ f. omega arith) in
             elim (same_or_not k i) [
               | inl e ↦ rw (e, w.here, q) top
@@ -138,7 +140,8 @@ module _ (halves : List Float) where
         skip' : (k : ℕ) → 0 < k → k < n → parent k ≡ r → 0 < r → leaves halves (B k) (B (parent r)) ≡ false
         skip' k a b p g =
             let j : i < r = i<r in
-            rw (at_i, w.there k (λ e. omega arith)) (subst (λ (m : ℕ). leaves halves (A k) (A m) ≡ false) p (u.rest k a b (λ e. omega arith) (λ e. omega arith)))
+            rw (at_i, w.there k (λ e. omega arith))
+            (subst (λ (m : ℕ). leaves halves (A k) (A m) ≡ false) p (u.rest k a b (λ e. omega arith) (λ e. omega arith)))
 
         own' : 0 < r → leaves halves c (B (parent r)) ≡ false
         own' g = rw at_i (leaves_asym halves (A r) c h)

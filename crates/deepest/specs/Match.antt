@@ -7,7 +7,7 @@ use Rattle.std.proofs.Math.Logic.{inl, inr}
 use native.Mathlib.Omega.{arith}
 use Rattle.std.proofs.Math.Arith.{lt_of_le-ne}
 use Rattle.deepest.specs.Order.{leaves, leaves_chain, leaves_asym, leaves_tie}
-use Rattle.deepest.specs.Cells.{cell_at}
+use Rattle.deepest.specs.Cells.{Rows, cell_at}
 use Rattle.deepest.specs.Heap.{root_first, same_or_not, itself}
 use Rattle.deepest.specs.Same.{cell_eq, cell_same, is_cell, is_itself, is_other}
 use Rattle.deepest.specs.Queue.{total, Queue, Pushed, Popped}
@@ -20,7 +20,8 @@ unfolding total
 array_find c A zero h = absurd (omega arith)
 array_find c A (suc n) h = pick (cell_eq c (A n)) refl (array_find c A n)
   where
-    pick : (t : Bool) → cell_eq c (A n) ≡ t → (0 < total (is_cell c) A n → (k : ℕ) × (k < n) × (A k ≡ c)) → (k : ℕ) × (k < suc n) × (A k ≡ c)
+    pick : (t : Bool) → cell_eq c (A n) ≡ t → (0 < total (is_cell c) A n → (k : ℕ) × (k < n) × (A k ≡ c))
+        → (k : ℕ) × (k < suc n) × (A k ≡ c)
     pick true e f = (n, omega arith, sym (cell_same c (A n) e))
     pick false e f =
         let z = is_other c (A n) e in
@@ -87,7 +88,9 @@ module _ (halves : List Float) where
   sum_enter f c [] = refl
   sum_enter f c (e ∷ es) = pick (leaves halves c e) (sum_enter f c es)
     where
-      pick : (t : Bool) → sum_over f (enter halves c es) ≡ f c + sum_over f es → sum_over f (cond t (c ∷ e ∷ es) (e ∷ enter halves c es)) ≡ f c + (f e + sum_over f es)
+      pick :
+          (t : Bool) → sum_over f (enter halves c es) ≡ f c + sum_over f es
+          → sum_over f (cond t (c ∷ e ∷ es) (e ∷ enter halves c es)) ≡ f c + (f e + sum_over f es)
       pick true r = refl
       pick false r = omega arith
 
@@ -105,7 +108,9 @@ module _ (halves : List Float) where
           absurd (omega arith)
 
       pick : (t : Bool) → leaves halves c a ≡ t → Sorted (enter halves c rest) → Sorted (cond t (c ∷ a ∷ rest) (a ∷ enter halves c rest))
-      pick true f r = ((f, each_map (λ x. leaves halves a x ≡ true) (λ x. leaves halves c x ≡ true) (λ x g. sooner_chain c a x f g) rest s.0), (s.0, s.1))
+      pick true f r =
+          let both = each_map (λ x. leaves halves a x ≡ true) (λ x. leaves halves c x ≡ true) (λ x g. sooner_chain c a x f g) rest s.0 in
+          ((f, both), (s.0, s.1))
       pick false f r = (each_enter (λ x. leaves halves a x ≡ true) c rest (earlier f (leaves halves a c) refl) s.0, r)
 
 -- ---- how many
@@ -120,25 +125,34 @@ ones_array A zero = refl
 ones_array A (suc n) = rw (ones_array A n) (omega arith)
 
 -- ---- the slice against the list
-pub record Match (halves l : List Float) (m : ℕ) (q : List Cell) (n : ℕ) : Type 0 where
+pub record Match (halves : List Float) (l : Rows) (m : ℕ) (q : List Cell) (n : ℕ) : Type 0 where
   pub queue : Queue halves l m
   pub bag : (f : Cell → ℕ) → total f (cell_at l) m ≡ sum_over f q
   pub sorted : Sorted halves q
   pub below : Each (λ a. a.entry < n) q
 
-module _ (halves l : List Float) (m : ℕ) where
+module _ (halves : List Float) (l : Rows) (m : ℕ) where
   pub match_start : m ≡ 0 → Match halves l m [] 0
   unfolding total sum_over
-  match_start e = rw e (record { queue = record { room = omega arith; sound = λ k h. absurd (omega arith); heap = record { order = λ k a b. absurd (omega arith) } }; bag = λ f. refl; sorted = tt; below = tt })
+  match_start e =
+      rw e
+      (record {
+        queue = record { room = omega arith; sound = λ k h. absurd (omega arith); heap = record { order = λ k a b. absurd (omega arith) } };
+        bag = λ f. refl;
+        sorted = tt;
+        below = tt;
+      })
 
   module _ (q : List Cell) (n : ℕ) (w : Match halves l m q n) where
-    pub match_push : (c : Cell) (l' : List Float) → Pushed halves l m c l' → c.entry ≡ n → Match halves l' (m + 1) (enter halves c q) (n + 1)
+    pub match_push : (c : Cell) (l' : Rows) → Pushed halves l m c l' → c.entry ≡ n → Match halves l' (m + 1) (enter halves c q) (n + 1)
     match_push c l' p e =
         record {
           queue = p.queue;
           bag = λ f. omega (arith, p.bag f, w.bag f, sum_enter halves f c q);
           sorted = sorted_enter halves n c q e w.below w.sorted;
-          below = each_enter halves (λ a. a.entry < n + 1) c q (omega arith) (each_map halves (λ a. a.entry < n) (λ a. a.entry < n + 1) (λ a h. omega arith) q w.below);
+          below =
+              each_enter halves (λ a. a.entry < n + 1) c q (omega arith)
+              (each_map halves (λ a. a.entry < n) (λ a. a.entry < n + 1) (λ a h. omega arith) q w.below);
         }
 
     pub match_length : length q ≡ m
@@ -160,7 +174,9 @@ module _ (halves l : List Float) (m : ℕ) where
       late k b e c =
           elim c [
             | inl q ↦ rw (ap (cell_at l) q ∙ e) (itself halves h (leaves halves h h) refl)
-            | inr q ↦ subst (λ (a : Cell). leaves halves a (cell_at l 0) ≡ false) e (root_first halves (cell_at l) m w.queue.heap (suc k) k (omega arith) b q)
+            | inr q ↦
+                subst (λ (a : Cell). leaves halves a (cell_at l 0) ≡ false) e
+                (root_first halves (cell_at l) m w.queue.heap (suc k) k (omega arith) b q)
           ]
 
   -- so the first place holds the first of the list
@@ -177,7 +193,7 @@ module _ (halves l : List Float) (m : ℕ) where
           absurd (true≢false (sym s ∙ first_late h t n w))
 
   pub match_pop :
-      (q : List Cell) (n : ℕ) → Match halves l m q n → (r : Cell) (l' : List Float) (j : ℕ) → m ≡ j + 1 → Popped halves l m r l'
+      (q : List Cell) (n : ℕ) → Match halves l m q n → (r : Cell) (l' : Rows) (j : ℕ) → m ≡ j + 1 → Popped halves l m r l'
       → (t : List Cell) × (q ≡ r ∷ t) × Match halves l' j t n
   unfolding sum_over
   match_pop [] n w r l' j e p = absurd (omega (arith, match_length [] n w))

@@ -1,15 +1,19 @@
 -- The order in which waiting cells leave: the greatest bound first, of equal bounds the first to enter.
 -- Rests on float's laws of comparisons.
-use Rattle.std.specs.Prelude.{◌≡◌, ℕ, zero, suc, ◌+◌, ◌-◌, ◌<◌, ◌≤◌, Bool, true, false, not, ◌&&◌, ◌||◌, T, ◌⊎◌, List, [], ◌∷◌, ◌++◌, length, take, nat_lt, slice_index_or, slice_set, refl, Float}
-use Rattle.std.proofs.Common.{sym, ◌∙◌, inl, inr, true≢false, append-nil, le_antisymm, add-one, arith, le-ltb, ltb-true, ltb-false, take_all, take-suc-set}
+use Rattle.std.specs.Prelude.{◌≡◌, ℕ, zero, suc, ◌+◌, ◌-◌, ◌*◌, ◌<◌, ◌≤◌, ◌==◌, nat_lt, refl, Float}
+use Rattle.std.specs.Prelude.{Bool, true, false, cond, not, ◌&&◌, ◌||◌, T, ◌⊎◌, Some}
+use Rattle.std.specs.Prelude.{List, [], ◌∷◌, ◌++◌, length, take, slice_index_or, slice_set}
+use Rattle.std.specs.Ordering.{is_lt, is_some_and, nat_cmp, nan_last_cmp, partial_ordering_then, partial_lt}
+use Rattle.std.proofs.Common.{sym, ◌∙◌, inl, inr, true≢false, append-nil, le_antisymm, add-one, add_comm, arith}
+use Rattle.std.proofs.Common.{Ordering, Less, Equal, Greater, le-ltb, ltb-true, ltb-false, take_all, take-suc-set}
 use Rattle.std.proofs.Math.Nat
 use Rattle.std.proofs.Math.Seq.{append_snoc}
 use Rattle.std.specs.Float.{nan, inf, fin}
-use Rattle.std.specs.Float.Ieee.{lt, is_nan}
+use Rattle.std.specs.Float.Ieee.{up, down, lt, neg, is_nan}
 use Rattle.std.proofs.Math.Facts.{and_yes}
 use Rattle.laws.specs.Truth.{yes, no, refuted, or_split}
 use Rattle.float.specs.Ops.{◌+ᶠ◌, ◌*ᶠ◌, ◌/ᶠ◌, ◌<ᶠ◌, literal, 2ᶠ}
-use Rattle.float.specs.Laws.Nan.{Number, lt_number}
+use Rattle.float.specs.Laws.Nan.{Number, lt_nan, lt_number}
 use Rattle.float.specs.Laws.Compare.{le_trans, lt_le, lt_not_le, not_lt_le}
 use Rattle.deepest.specs.declared.queue.Cell.{Cell}
 
@@ -168,6 +172,75 @@ sooner_tie u i v j p q =
       | inl h ↦ absurd (true≢false (sym h ∙ g.bound))
       | inr h ↦ elim g.entry [ inl l ↦ absurd (true≢false (sym l ∙ f.bound)) | inr l ↦ le_antisymm l h ]
     ]
+
+-- ---- the order as the library's: turned over, the least bound first, and a NaN last
+neg_nan : (x : Float) → is_nan (neg x) ≡ is_nan x
+unfolding neg is_nan
+neg_nan nan = refl
+neg_nan (inf s) = refl
+neg_nan (fin s m e) = refl
+
+neg_lt : (x y : Float) → lt (neg x) (neg y) ≡ lt y x
+unfolding neg lt
+neg_lt nan nan = refl
+neg_lt nan (inf t) = refl
+neg_lt nan (fin t n d) = refl
+neg_lt (inf s) nan = refl
+neg_lt (inf true) (inf true) = refl
+neg_lt (inf true) (inf false) = refl
+neg_lt (inf false) (inf true) = refl
+neg_lt (inf false) (inf false) = refl
+neg_lt (inf s) (fin t n d) = refl
+neg_lt (fin s m e) nan = refl
+neg_lt (fin s m e) (inf true) = refl
+neg_lt (fin s m e) (inf false) = refl
+neg_lt (fin true m e) (fin true n d) = refl
+neg_lt (fin true m e) (fin false n d) = refl
+neg_lt (fin false m e) (fin true n d) = rw (add_comm (m * up e * down d))
+neg_lt (fin false m e) (fin false n d) = refl
+
+not_lt_nan : (x y : Float) → is_nan x ≡ true → (lt x y ≡ false) × (lt y x ≡ false)
+unfolding is_nan
+not_lt_nan nan y h = ((lt_nan y).1, (lt_nan y).0)
+not_lt_nan (inf s) y h = absurd (true≢false (sym h))
+not_lt_nan (fin s m e) y h = absurd (true≢false (sym h))
+
+cmp_lt : (i j : ℕ) → is_lt (nat_cmp i j) ≡ nat_lt i j
+cmp_lt i j = go (nat_lt i j) (i == j)
+  where
+    go : (a b : Bool) → is_lt (cond a Less (cond b Equal Greater)) ≡ a
+    go true b = refl
+    go false true = refl
+    go false false = refl
+
+-- how the library compares two bounds, by whether each is a NaN, and which is lower
+abbrev compared : Bool → Bool → Bool → Bool → Ordering
+compared p q l g = cond p (cond q Equal Greater) (cond q Less (cond l Less (cond g Greater Equal)))
+
+pub sooner_cmp :
+    (u : Float) (i : ℕ) (v : Float) (j : ℕ)
+    → partial_lt (λ (x y : Float × ℕ). partial_ordering_then (Some (nan_last_cmp x.0 y.0)) (Some (nat_cmp x.1 y.1))) (neg u, i) (neg v, j)
+    ≡ sooner u i v j
+unfolding sooner lower_than
+sooner_cmp u i v j =
+    rw (neg_nan u, neg_nan v, neg_lt u v, neg_lt v u)
+    (go (is_nan u) (is_nan v) (lt v u) (lt u v) (not_lt_nan u v) (not_lt_nan v u))
+  where
+    go :
+        (p q l g : Bool) → (p ≡ true → (g ≡ false) × (l ≡ false)) → (q ≡ true → (l ≡ false) × (g ≡ false))
+        → is_some_and is_lt (partial_ordering_then (Some (compared p q l g)) (Some (nat_cmp i j)))
+        ≡ (l || (q && not p)) || (not (g || (p && not q)) && nat_lt i j)
+    go true true true g f h = absurd (true≢false (f refl).1)
+    go true true false true f h = absurd (true≢false (f refl).0)
+    go true true false false f h = cmp_lt i j
+    go true false true g f h = absurd (true≢false (f refl).1)
+    go true false false true f h = refl
+    go true false false false f h = refl
+    go false true true g f h = refl
+    go false true false g f h = refl
+    go false false true g f h = refl
+    go false false false true f h = refl
+    go false false false false f h = cmp_lt i j
 
 -- ---- laws of `leaves`
 

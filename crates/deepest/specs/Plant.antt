@@ -1,6 +1,7 @@
 -- The first cells of the search, one after another, against the definition's grid.
 -- Rests on the laws of the waiting cells.
-use Rattle.std.specs.Prelude.{◌≡◌, ℕ, zero, suc, ◌+◌, ◌-◌, ◌*◌, ◌/◌, ◌<◌, ◌≤◌, Option, Some, None, Result, Ok, Err, List, [], length, refl, Float}
+use Rattle.std.specs.Prelude.{◌≡◌, ℕ, zero, suc, ◌+◌, ◌-◌, ◌*◌, ◌<◌, ◌≤◌}
+use Rattle.std.specs.Prelude.{Option, Some, None, Result, Ok, Err, List, [], length, refl, Float}
 use Rattle.std.proofs.Common.{◌∙◌}
 use Rattle.std.proofs.Math.Nat.{sub-zero}
 use native.Mathlib.Omega.{arith}
@@ -9,7 +10,7 @@ use Rattle.glyphs.specs.declared.bounds.Extents.{Extents}
 use Rattle.glyphs.specs.declared.rect.Point.{Point}
 use Rattle.regions.specs.Ring.{Piece}
 use Rattle.deepest.specs.Order.{half_at, halves_from}
-use Rattle.deepest.specs.Cells.{cell_at}
+use Rattle.deepest.specs.Cells.{Rows, cell_at}
 use Rattle.deepest.specs.Queue.{total}
 use Rattle.deepest.specs.Match.{Match, match_start, match_length}
 use Rattle.deepest.specs.Deepest.{enter, nodes, heft, make_cell, next_corner, first_corner, Grid, waiting, over, grid_from, finish, centre_of, search_in}
@@ -26,7 +27,7 @@ unfolding nodes
 nodes_21 = refl
 
 -- m cells wait in l, those of a grid
-pub record Planted (halves l : List Float) (m : ℕ) (grid : Grid) : Type 0 where
+pub record Planted (halves : List Float) (l : Rows) (m : ℕ) (grid : Grid) : Type 0 where
   pub q : List Cell
   pub is : grid ≡ waiting q
   pub match : Match halves l m q m
@@ -54,14 +55,14 @@ Seeds w grid (Err none) w' = Crowded w grid w'
 
 module _ (piece : Piece) (halves : List Float) (e : Extents) (side : Float) (room : ℕ) where
   -- the grid from the corner c on, with m cells of it in l
-  pub record Planting (l : List Float) (m : ℕ) (next : Option Point) : Type 0 where
+  pub record Planting (l : Rows) (m : ℕ) (next : Option Point) : Type 0 where
     pub place : m ≤ room
     pub q : List Cell
     pub match : Match halves l m q m
     pub weight : total heft (cell_at l) m ≡ m * 5864062014805
     pub same : grid_from piece halves e side room (first_corner e) [] 0 ≡ grid_from piece halves e side (room - m) next q m
 
-  pub plant_start : (l : List Float) → Planting l 0 (first_corner e)
+  pub plant_start : (l : Rows) → Planting l 0 (first_corner e)
   unfolding total
   plant_start l = record { place = omega arith; q = []; match = match_start halves l 0 refl; weight = refl; same = rw sub-zero }
 
@@ -85,7 +86,7 @@ module _ (piece : Piece) (halves : List Float) (e : Extents) (side : Float) (roo
       let g : suc r - 1 ≡ r = omega arith in
       rw g
 
-  module _ (l : List Float) (m : ℕ) where
+  module _ (l : Rows) (m : ℕ) where
     pub plant_end : Planting l m None → Planted halves l m (grid_from piece halves e side room (first_corner e) [] 0)
     plant_end u = record { q = u.q; is = u.same ∙ grid_end (room - m) u.q m; match = u.match; weight = u.weight }
 
@@ -94,7 +95,7 @@ module _ (piece : Piece) (halves : List Float) (e : Extents) (side : Float) (roo
       plant_over r = u.same ∙ grid_over (room - m) c u.q m (omega arith)
 
       pub plant_step :
-          (x y : Float) (l' : List Float) → m < room → x ≡ c.x +ᶠ half_at halves 0 → y ≡ c.y +ᶠ half_at halves 0
+          (x y : Float) (l' : Rows) → m < room → x ≡ c.x +ᶠ half_at halves 0 → y ≡ c.y +ᶠ half_at halves 0
           → Entered piece halves l m x y 0 m l' → Planting l' (m + 1) (next_corner e side c)
       plant_step x y l' r p k w =
           let a = u.weight in
@@ -120,20 +121,31 @@ module _ (piece : Piece) (halves : List Float) (e : Extents) (side : Float) (roo
 
 -- ---- the search as a whole
 
-module _ (piece : Piece) (precision : Float) (room : ℕ) (e : Extents) (side : Float) (halves : List Float) (h : halves ≡ halves_from (side /ᶠ 2ᶠ) 22) where
-  pub search_over : grid_from piece halves e side room (first_corner e) [] 0 ≡ over → search_in piece precision room e side ≡ Full
-  unfolding search_in finish
-  search_over g = rw (← h, g)
+module _
+    (piece : Piece)
+    (precision : Float)
+    (room : ℕ)
+    (e : Extents)
+    (side : Float)
+    (halves : List Float)
+    (h : halves ≡ halves_from (side /ᶠ 2ᶠ) 22)
+  where
+    pub search_over : grid_from piece halves e side room (first_corner e) [] 0 ≡ over → search_in piece precision room e side ≡ Full
+    unfolding search_in finish
+    search_over g = rw (← h, g)
 
-  pub search_some :
-      (l : List Float) (m : ℕ) (best : Best) (r : Deepest) → room ≡ length l / 5 → Planted halves l m (grid_from piece halves e side room (first_corner e) [] 0)
-      → best ≡ centre_of piece e → Explored piece halves precision l m best r → r ≡ search_in piece precision room e side
-  unfolding search_in finish centre_of
-  search_some l m best r k p b x =
-      rw (← h, p.is, match_length halves l m p.q m p.match, ← b, k) (x.answer p.q p.match)
+    pub search_some :
+        (l : Rows) (m : ℕ) (best : Best) (r : Deepest) → room ≡ length l
+        → Planted halves l m (grid_from piece halves e side room (first_corner e) [] 0)
+        → best ≡ centre_of piece e → Explored piece halves precision l m best r → r ≡ search_in piece precision room e side
+    unfolding search_in finish centre_of
+    search_some l m best r k p b x =
+        rw (← h, p.is, match_length halves l m p.q m p.match, ← b, k) (x.answer p.q p.match)
 
 -- the table, the few first cells and their light weight leave entries for all
-pub light : (l : List Float) (m : ℕ) (halves : List Float) (grid : Grid) → length l ≤ 500000 → Planted halves l m grid → m + 4 * total heft (cell_at l) m ≤ 4611686018427387904
+pub light :
+    (l : Rows) (m : ℕ) (halves : List Float) (grid : Grid) → length l ≤ 100000 → Planted halves l m grid
+    → m + 4 * total heft (cell_at l) m ≤ 4611686018427387904
 light l m halves grid h p =
     let a = p.weight in
     let b = p.match.queue.room in

@@ -4,7 +4,7 @@ use Rattle.std.specs.Prelude.{◌≡◌, ℕ, ◌+◌, ◌-◌, ◌*◌, ◌<◌
 use Rattle.std.proofs.Math.Path.{ap}
 use Rattle.std.proofs.Common.{◌∙◌, le_refl, arith}
 use Rattle.regions.specs.Ring.{Piece}
-use Rattle.deepest.specs.Cells.{cell_at}
+use Rattle.deepest.specs.Cells.{Rows, cell_at}
 use Rattle.deepest.specs.Queue.{total, Queue, Popped}
 use Rattle.deepest.specs.Match.{Match, match_pop, match_none, match_length}
 use Rattle.deepest.specs.Deepest.{heft, sum_over, better_of, answer_of, splits_at, enter_four, turns}
@@ -16,21 +16,21 @@ use Rattle.deepest.specs.declared.search.Deepest.TheVariants.{Full}
 
 module _ (piece : Piece) (halves : List Float) (precision : Float) (room : ℕ) where
   -- what is left of the search for d: f turns on the list q
-  pub record Left (d : Deepest) (l : List Float) (m n : ℕ) (best : Best) : Type 0 where
+  pub record Left (d : Deepest) (l : Rows) (m n : ℕ) (best : Best) : Type 0 where
     pub f : ℕ
     pub q : List Cell
     pub match : Match halves l m q n
     pub enough : sum_over heft q ≤ f
     pub same : d ≡ turns piece halves f precision room q best n
 
-  pub record Searching (l₀ : List Float) (m₀ : ℕ) (best₀ : Best) (l : List Float) (m n : ℕ) (best : Best) : Type 0 where
+  pub record Searching (l₀ : Rows) (m₀ : ℕ) (best₀ : Best) (l : Rows) (m n : ℕ) (best : Best) : Type 0 where
     pub long : length l ≡ length l₀
     pub queue : Queue halves l m
     pub light : n + 4 * total heft (cell_at l) m ≤ 4611686018427387904
     pub left : (q : List Cell) → Match halves l₀ m₀ q m₀ → Left (turns piece halves (sum_over heft q) precision room q best₀ m₀) l m n best
 
   pub search_start :
-      (l : List Float) (m : ℕ) (best : Best) → Queue halves l m → m + 4 * total heft (cell_at l) m ≤ 4611686018427387904
+      (l : Rows) (m : ℕ) (best : Best) → Queue halves l m → m + 4 * total heft (cell_at l) m ≤ 4611686018427387904
       → Searching l m best l m m best
   search_start l m best q w =
       record {
@@ -41,15 +41,15 @@ module _ (piece : Piece) (halves : List Float) (precision : Float) (room : ℕ) 
       }
 
   module _
-      (l₀ : List Float)
+      (l₀ : Rows)
       (m₀ : ℕ)
       (best₀ : Best)
-      (l : List Float)
+      (l : Rows)
       (m n : ℕ)
       (best : Best)
       (s : Searching l₀ m₀ best₀ l m n best)
       (c : Cell)
-      (l' : List Float)
+      (l' : Rows)
       (j : ℕ)
       (some : m ≡ j + 1)
       (p : Popped halves l m c l')
@@ -92,7 +92,7 @@ module _ (piece : Piece) (halves : List Float) (precision : Float) (room : ℕ) 
           }
 
       left_split :
-          {d : Deepest} (l'' : List Float) → splits_at halves precision c (better_of best c) ≡ true → c.halvings < 21 → j + 4 ≤ room
+          {d : Deepest} (l'' : Rows) → splits_at halves precision c (better_of best c) ≡ true → c.halvings < 21 → j + 4 ≤ room
           → Quartered piece halves l' j c n l'' → Left d l m n best → Left d l'' (j + 4) (n + 4) (better_of best c)
       left_split l'' e k g h u =
           let r = rest u.q u.match in
@@ -131,7 +131,7 @@ module _ (piece : Piece) (halves : List Float) (precision : Float) (room : ℕ) 
           record { long = p.long ∙ s.long; queue = p.queue j some; light = omega arith; left = λ q w. left_keep e (s.left q w) }
 
       pub search_split :
-          (l'' : List Float) → splits_at halves precision c (better_of best c) ≡ true → c.halvings < 21 → j + 4 ≤ room
+          (l'' : Rows) → splits_at halves precision c (better_of best c) ≡ true → c.halvings < 21 → j + 4 ≤ room
           → Quartered piece halves l' j c n l'' → Searching l₀ m₀ best₀ l'' (j + 4) (n + 4) (better_of best c)
       search_split l'' e k g h =
           let w = lighter in
@@ -159,7 +159,8 @@ module _ (piece : Piece) (halves : List Float) (precision : Float) (room : ℕ) 
           omega arith
 
   pub search_done :
-      (l₀ : List Float) (m₀ : ℕ) (best₀ : Best) (l : List Float) (m n : ℕ) (best : Best) → Searching l₀ m₀ best₀ l m n best → m ≡ 0 → (q : List Cell)
+      (l₀ : Rows) (m₀ : ℕ) (best₀ : Best) (l : Rows) (m n : ℕ) (best : Best) → Searching l₀ m₀ best₀ l m n best → m ≡ 0
+      → (q : List Cell)
       → Match halves l₀ m₀ q m₀ → turns piece halves (sum_over heft q) precision room q best₀ m₀ ≡ answer_of best
   search_done l₀ m₀ best₀ l m n best s e q w =
       let u = s.left q w in

@@ -1,13 +1,13 @@
 -- A cell on its way up through the waiting cells, or down: what holds at each turn of the loops of `push` and `pop`.
 -- Rests on the laws of the heap and of the bag.
-use Rattle.std.specs.Prelude.{◌≡◌, ℕ, ◌+◌, ◌-◌, ◌*◌, ◌<◌, ◌≤◌, true, false, List, length, ◌≢◌, Float}
+use Rattle.std.specs.Prelude.{◌≡◌, ℕ, ◌+◌, ◌-◌, ◌<◌, ◌≤◌, true, false, List, length, ◌≢◌, Float}
 use Rattle.std.proofs.Math.Path.{refl, ap}
 use Rattle.std.proofs.Common.{sym, ◌∙◌, subst, inl, inr, le_of_suc-le-suc}
 use native.Mathlib.Omega.{arith}
 use Rattle.std.proofs.Math.Numerals.{add-one}
 use Rattle.std.proofs.Math.Arith.{lt_of_le-ne}
 use Rattle.deepest.specs.Order.{leaves, leaves_chain}
-use Rattle.deepest.specs.Cells.{cell_at, put_cell, Tagged, Sound, length_put, put_sound, put_keeps}
+use Rattle.deepest.specs.Cells.{Rows, cell_at, put_cell, Tagged, Sound, length_put, put_sound, put_keeps}
 use Rattle.deepest.specs.Heap.{parent, Heaped, Changed, Up, Down, First, same_or_not, up_start, up_step, up_done, down_start, down_step, down_done}
 use Rattle.deepest.specs.Queue.{total, Queue, Pushed, Popped, changed_put, total_changed}
 use Rattle.deepest.specs.declared.queue.Cell.{Cell}
@@ -16,16 +16,16 @@ below_last : (k m : ℕ) → k < m + 1 → (k ≢ m) → k < m
 below_last k m h e = lt_of_le-ne (le_of_suc-le-suc (rw add-one at h)) e
 
 -- ---- up: the place i is free for c, all others of the first m + 1 hold what waited
-pub record Rising (halves l₀ : List Float) (m : ℕ) (c : Cell) (l : List Float) (i : ℕ) : Type 0 where
+pub record Rising (halves : List Float) (l₀ : Rows) (m : ℕ) (c : Cell) (l : Rows) (i : ℕ) : Type 0 where
   pub place : i ≤ m
   pub long : length l ≡ length l₀
-  pub room : m * 5 + 4 < length l₀
+  pub room : m < length l₀
   pub sound : (k : ℕ) → k < m + 1 → (k ≢ i) → Sound l k
   pub bag : (f : Cell → ℕ) → total f (cell_at l) (m + 1) ≡ total f (cell_at l₀) m + f (cell_at l i)
   pub order : Up halves (cell_at l) i (m + 1) c
 
-module _ (halves l₀ : List Float) (m : ℕ) (c : Cell) where
-  pub rising_start : Queue halves l₀ m → m * 5 + 4 < length l₀ → Rising halves l₀ m c l₀ m
+module _ (halves : List Float) (l₀ : Rows) (m : ℕ) (c : Cell) where
+  pub rising_start : Queue halves l₀ m → m < length l₀ → Rising halves l₀ m c l₀ m
   unfolding total
   rising_start q r =
       record {
@@ -34,14 +34,16 @@ module _ (halves l₀ : List Float) (m : ℕ) (c : Cell) where
         room = r;
         sound = λ k h e. q.sound k (below_last k m h e);
         bag = λ f. rw add-one;
-        order = up_start halves (cell_at l₀) (cell_at l₀) m (m + 1) c (omega arith) (omega arith) (subst (λ (n : ℕ). Heaped halves (cell_at l₀) n) last q.heap);
+        order =
+            up_start halves (cell_at l₀) (cell_at l₀) m (m + 1) c (omega arith) (omega arith)
+            (subst (λ (n : ℕ). Heaped halves (cell_at l₀) n) last q.heap);
       }
     where
       last : m ≡ m + 1 - 1
       last = omega arith
 
-  module _ (l : List Float) (i : ℕ) (u : Rising halves l₀ m c l i) where
-    fits : i * 5 + 4 < length l
+  module _ (l : Rows) (i : ℕ) (u : Rising halves l₀ m c l i) where
+    fits : i < length l
     fits =
         let a = u.place in
         let b = u.long in
@@ -85,7 +87,7 @@ module _ (halves l₀ : List Float) (m : ℕ) (c : Cell) where
           bag = λ f. summed f w;
         }
       where
-        long' : (m + 1) * 5 ≤ length (put_cell l i c)
+        long' : m + 1 ≤ length (put_cell l i c)
         long' =
             let a = u.long in
             let b = u.room in
@@ -95,21 +97,23 @@ module _ (halves l₀ : List Float) (m : ℕ) (c : Cell) where
         kept : (k : ℕ) → k < m + 1 → Sound (put_cell l i c) k
         kept k b = elim (same_or_not k i) [ inl q ↦ rw q (put_sound l i c fits t) | inr q ↦ put_keeps l i c k q (u.sound k b q) ]
 
-        summed : (f : Cell → ℕ) → Changed (cell_at l) (cell_at (put_cell l i c)) i c → total f (cell_at (put_cell l i c)) (m + 1) ≡ total f (cell_at l₀) m + f c
+        summed :
+            (f : Cell → ℕ) → Changed (cell_at l) (cell_at (put_cell l i c)) i c
+            → total f (cell_at (put_cell l i c)) (m + 1) ≡ total f (cell_at l₀) m + f c
         summed f w =
             let i≤m = u.place in
             omega (arith, u.bag f, total_changed f (cell_at l) (cell_at (put_cell l i c)) i c (m + 1) w (omega arith))
 
 -- ---- down: the place i is free for c, all others of the first n hold what waited but r and c
-pub record Sinking (halves l₀ : List Float) (n : ℕ) (r c : Cell) (l : List Float) (i : ℕ) : Type 0 where
+pub record Sinking (halves : List Float) (l₀ : Rows) (n : ℕ) (r c : Cell) (l : Rows) (i : ℕ) : Type 0 where
   pub place : i < n
   pub long : length l ≡ length l₀
-  pub room : (n + 1) * 5 ≤ length l₀
+  pub room : n + 1 ≤ length l₀
   pub sound : (k : ℕ) → k < n → (k ≢ i) → Sound l k
   pub bag : (f : Cell → ℕ) → total f (cell_at l) n + f c + f r ≡ total f (cell_at l₀) (n + 1) + f (cell_at l i)
   pub order : Down halves (cell_at l) i n c
 
-module _ (halves l₀ : List Float) (n : ℕ) (r c : Cell) where
+module _ (halves : List Float) (l₀ : Rows) (n : ℕ) (r c : Cell) where
   pub sinking_start : Queue halves l₀ (n + 1) → 0 < n → r ≡ cell_at l₀ 0 → c ≡ cell_at l₀ n → Sinking halves l₀ n r c l₀ 0
   unfolding total
   sinking_start q z p e =
@@ -128,8 +132,8 @@ module _ (halves l₀ : List Float) (n : ℕ) (r c : Cell) where
           let b : f r ≡ f (cell_at l₀ 0) = ap f p in
           rw add-one (omega arith)
 
-  module _ (l : List Float) (i : ℕ) (u : Sinking halves l₀ n r c l i) where
-    spot : i * 5 + 4 < length l
+  module _ (l : Rows) (i : ℕ) (u : Sinking halves l₀ n r c l i) where
+    spot : i < length l
     spot =
         let a = u.place in
         let b = u.long in
@@ -172,7 +176,8 @@ module _ (halves l₀ : List Float) (n : ℕ) (r c : Cell) where
         → Popped halves l₀ (n + 1) r (put_cell l i c)
     sinking_done t h p =
         let w : Changed (cell_at l) (cell_at (put_cell l i c)) i c = changed_put l i c spot t in
-        let q : Queue halves (put_cell l i c) n = record { room = long'; sound = kept_at c t; heap = down_done halves (cell_at l) (cell_at (put_cell l i c)) i n c u.order h w } in
+        let down = down_done halves (cell_at l) (cell_at (put_cell l i c)) i n c u.order h w in
+        let q : Queue halves (put_cell l i c) n = record { room = long'; sound = kept_at c t; heap = down } in
         record {
           long = length_put l i c ∙ u.long;
           first = p;
@@ -183,24 +188,26 @@ module _ (halves l₀ : List Float) (n : ℕ) (r c : Cell) where
         same : (j : ℕ) → n + 1 ≡ j + 1 → n ≡ j
         same j e = omega arith
 
-        long' : n * 5 ≤ length (put_cell l i c)
+        long' : n ≤ length (put_cell l i c)
         long' =
             let a = u.long in
             let b = u.room in
             let e = length_put l i c in
             omega arith
 
-        summed : (f : Cell → ℕ) → Changed (cell_at l) (cell_at (put_cell l i c)) i c → total f (cell_at (put_cell l i c)) n + f r ≡ total f (cell_at l₀) (n + 1)
+        summed :
+            (f : Cell → ℕ) → Changed (cell_at l) (cell_at (put_cell l i c)) i c
+            → total f (cell_at (put_cell l i c)) n + f r ≡ total f (cell_at l₀) (n + 1)
         summed f w = omega (arith, u.bag f, total_changed f (cell_at l) (cell_at (put_cell l i c)) i c n w u.place)
 
 -- the children that do not leave before c, where the first of them does not
 pub no_child_first :
-    (halves l : List Float) (n i k : ℕ) (c : Cell) → First halves (cell_at l) n i k → leaves halves (cell_at l k) c ≡ false
+    (halves : List Float) (l : Rows) (n i k : ℕ) (c : Cell) → First halves (cell_at l) n i k → leaves halves (cell_at l k) c ≡ false
     → (j : ℕ) → 0 < j → j < n → parent j ≡ i → leaves halves (cell_at l j) c ≡ false
 no_child_first halves l n i k c f h j a b p = leaves_chain halves (cell_at l j) (cell_at l k) c (f.least j a b p) h
 
 -- the last of the queue is the first
-pub popped_last : (halves l : List Float) (r : Cell) → r ≡ cell_at l 0 → Popped halves l 1 r l
+pub popped_last : (halves : List Float) (l : Rows) (r : Cell) → r ≡ cell_at l 0 → Popped halves l 1 r l
 unfolding total
 popped_last halves l r p =
     record {

@@ -1,6 +1,6 @@
 -- The turns of the search: one at a time, and why there are enough. A cell weighs as much as all cells that can come of it.
 -- Rests on the definition of the search.
-use Rattle.std.specs.Prelude.{◌≡◌, ℕ, zero, suc, ◌+◌, ◌-◌, ◌*◌, ◌/◌, ◌<◌, ◌≤◌, true, false, List, [], ◌∷◌, length, Float}
+use Rattle.std.specs.Prelude.{◌≡◌, ℕ, zero, suc, ◌+◌, ◌-◌, ◌*◌, ◌<◌, ◌≤◌, true, false, List, [], ◌∷◌, length, Float}
 use Rattle.std.proofs.Math.Path.{refl}
 use Rattle.std.proofs.Common.{ap, ◌∙◌, subst}
 use native.Mathlib.Omega.{arith}
@@ -9,7 +9,7 @@ use Rattle.float.specs.Ops.{◌+ᶠ◌, ◌-ᶠ◌}
 use Rattle.regions.specs.Ring.{Piece}
 use Rattle.regions.specs.Clearance.{signed_clearance}
 use Rattle.deepest.specs.Order.{half_at}
-use Rattle.deepest.specs.Cells.{cell_at}
+use Rattle.deepest.specs.Cells.{Rows, cell_at}
 use Rattle.deepest.specs.Queue.{total, Queue, Pushed}
 use Rattle.deepest.specs.Match.{Match, sum_enter, match_push}
 use Rattle.deepest.specs.Deepest.{enter, nodes, heft, sum_over, better_of, answer_of, splits_at, cell_of, make_cell, enter_four, turns}
@@ -19,14 +19,14 @@ use Rattle.deepest.specs.declared.search.Deepest.{Deepest}
 use Rattle.deepest.specs.declared.search.Deepest.TheVariants.{Full}
 
 -- what `enter_cell` does
-pub record Entered (piece : Piece) (halves l : List Float) (m : ℕ) (x y : Float) (k n : ℕ) (l' : List Float) : Type 0 where
+pub record Entered (piece : Piece) (halves : List Float) (l : Rows) (m : ℕ) (x y : Float) (k n : ℕ) (l' : Rows) : Type 0 where
   pub long : length l' ≡ length l
   pub queue : Queue halves l' (m + 1)
   pub weight : total heft (cell_at l') (m + 1) ≡ total heft (cell_at l) m + nodes (21 - k)
   pub match : (q : List Cell) → Match halves l m q n → Match halves l' (m + 1) (enter halves (make_cell piece x y k n) q) (n + 1)
 
 pub entered :
-    (piece : Piece) (halves l : List Float) (m : ℕ) (x y d : Float) (k n : ℕ) (l' : List Float)
+    (piece : Piece) (halves : List Float) (l : Rows) (m : ℕ) (x y d : Float) (k n : ℕ) (l' : Rows)
     → d ≡ signed_clearance x y piece → Pushed halves l m (cell_of x y d k n) l' → Entered piece halves l m x y k n l'
 unfolding make_cell
 entered piece halves l m x y d k n l' e p =
@@ -39,15 +39,15 @@ entered piece halves l m x y d k n l' e p =
     }
 
 -- what `push_four` does
-pub record Quartered (piece : Piece) (halves l : List Float) (m : ℕ) (c : Cell) (n : ℕ) (l' : List Float) : Type 0 where
+pub record Quartered (piece : Piece) (halves : List Float) (l : Rows) (m : ℕ) (c : Cell) (n : ℕ) (l' : Rows) : Type 0 where
   pub long : length l' ≡ length l
   pub queue : Queue halves l' (m + 4)
   pub weight : total heft (cell_at l') (m + 4) ≡ total heft (cell_at l) m + 4 * nodes (21 - (c.halvings + 1))
   pub match : (q : List Cell) → Match halves l m q n → Match halves l' (m + 4) (enter_four piece halves c n q) (n + 4)
 
 -- what `explore` answers: the definition's search on every list that the slice matches
-pub record Explored (piece : Piece) (halves : List Float) (precision : Float) (l : List Float) (m : ℕ) (best : Best) (r : Deepest) : Type 0 where
-  pub answer : (q : List Cell) → Match halves l m q m → r ≡ turns piece halves (sum_over heft q) precision (length l / 5) q best m
+pub record Explored (piece : Piece) (halves : List Float) (precision : Float) (l : Rows) (m : ℕ) (best : Best) (r : Deepest) : Type 0 where
+  pub answer : (q : List Cell) → Match halves l m q m → r ≡ turns piece halves (sum_over heft q) precision (length l) q best m
 
 pub nodes_pos : (k : ℕ) → 0 < nodes k
 unfolding nodes
@@ -80,7 +80,9 @@ module _ (piece : Piece) (halves : List Float) (precision : Float) (room : ℕ) 
     unfolding turns
     turn_keep e = at f some
       where
-        at : (f : ℕ) → 0 < f → turns piece halves f precision room (c ∷ rest) best n ≡ turns piece halves (f - 1) precision room rest (better_of best c) n
+        at :
+            (f : ℕ) → 0 < f
+            → turns piece halves f precision room (c ∷ rest) best n ≡ turns piece halves (f - 1) precision room rest (better_of best c) n
         at zero h = absurd (omega arith)
         at (suc f) h =
             let g : suc f - 1 ≡ f = omega arith in
@@ -113,7 +115,8 @@ module _ (piece : Piece) (halves : List Float) (precision : Float) (room : ℕ) 
 
 -- four cells that enter one after another are the quarters of a cell
 pub quartered :
-    (piece : Piece) (halves l : List Float) (m : ℕ) (c : Cell) (n : ℕ) (nh : Float) (l₁ l₂ l₃ l₄ : List Float) → nh ≡ half_at halves (c.halvings + 1)
+    (piece : Piece) (halves : List Float) (l : Rows) (m : ℕ) (c : Cell) (n : ℕ) (nh : Float) (l₁ l₂ l₃ l₄ : Rows)
+    → nh ≡ half_at halves (c.halvings + 1)
     → Entered piece halves l m (c.x -ᶠ nh) (c.y -ᶠ nh) (c.halvings + 1) n l₁
     → Entered piece halves l₁ (m + 1) (c.x +ᶠ nh) (c.y -ᶠ nh) (c.halvings + 1) (n + 1) l₂
     → Entered piece halves l₂ (m + 1 + 1) (c.x -ᶠ nh) (c.y +ᶠ nh) (c.halvings + 1) (n + 2) l₃
@@ -124,8 +127,12 @@ quartered piece halves l m c n nh l₁ l₂ l₃ l₄ h a b d e =
     record {
       long = e.long ∙ d.long ∙ b.long ∙ a.long;
       queue = subst (λ (k : ℕ). Queue halves l₄ k) places e.queue;
-      weight = subst (λ (k : ℕ). total heft (cell_at l₄) k ≡ total heft (cell_at l) m + 4 * nodes (21 - (c.halvings + 1))) places (omega (arith, a.weight, b.weight, d.weight, e.weight));
-      match = λ q w. rw (← h) (subst (λ (k : ℕ). Match halves l₄ k (quarters q) (n + 4)) places (up_to q (n + 3 + 1) (n + 4) (omega arith) (fourth q w)));
+      weight =
+          subst (λ (k : ℕ). total heft (cell_at l₄) k ≡ total heft (cell_at l) m + 4 * nodes (21 - (c.halvings + 1))) places
+          (omega (arith, a.weight, b.weight, d.weight, e.weight));
+      match =
+          λ q w. rw (← h)
+          (subst (λ (k : ℕ). Match halves l₄ k (quarters q) (n + 4)) places (up_to q (n + 3 + 1) (n + 4) (omega arith) (fourth q w)));
     }
   where
     places : m + 1 + 1 + 1 + 1 ≡ m + 4
@@ -158,5 +165,7 @@ quartered piece halves l m c n nh l₁ l₂ l₃ l₄ h a b d e =
         next : n + 2 + 1 ≡ n + 3
         next = omega arith
 
-    up_to : (q : List Cell) (i j : ℕ) → i ≡ j → Match halves l₄ (m + 1 + 1 + 1 + 1) (quarters q) i → Match halves l₄ (m + 1 + 1 + 1 + 1) (quarters q) j
+    up_to :
+        (q : List Cell) (i j : ℕ) → i ≡ j → Match halves l₄ (m + 1 + 1 + 1 + 1) (quarters q) i
+        → Match halves l₄ (m + 1 + 1 + 1 + 1) (quarters q) j
     up_to q i j p w = subst (λ (k : ℕ). Match halves l₄ (m + 1 + 1 + 1 + 1) (quarters q) k) p w

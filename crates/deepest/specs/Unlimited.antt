@@ -1,6 +1,7 @@
 -- The search without a limit on halvings answers the same as the search with it, for a piece whose outer ring lies within 1,024.
 -- Rests on the law that a cell is never split after 21 halvings, and on the sizes of places and clearances.
-use Rattle.std.specs.Prelude.{◌≡◌, ℕ, zero, suc, ◌+◌, ◌*◌, ◌<◌, ◌≤◌, Bool, true, false, cond, not, T, List, [], ◌∷◌, length, nat_lt, Float}
+use Rattle.std.specs.Prelude.{◌≡◌, ℕ, zero, suc, ◌+◌, ◌*◌, ◌<◌, ◌≤◌, Bool, true}
+use Rattle.std.specs.Prelude.{false, cond, not, T, List, [], ◌∷◌, length, nat_lt, Float}
 use Rattle.std.proofs.Math.Path.{refl}
 use Rattle.std.proofs.Common.{sym, ◌∙◌, eq-or-lt_of_le, le_of_lt, mul-le-mul_right, add-one, lt-ltb, le-ltb, lit<}
 use Rattle.std.proofs.Math.Logic.{inl, inr}
@@ -81,11 +82,15 @@ module _ (ring : Ring) (holes : List Ring) (b : Bounded ring) (h0 : Float) (hh :
       let f = m.few in
       rw m.clear (clearance_sized c.x c.y ring holes (wider (omega arith) m.across) (wider (omega arith) m.along) b)
 
-  quarter : (c : Cell) (x y : Float) (n : ℕ) → c.halvings < 21 → Sized x (2048 + 512 * c.halvings + 512) → Sized y (2048 + 512 * c.halvings + 512) → Measured (make_cell (ring ∷ holes) x y (c.halvings + 1) n)
+  quarter :
+      (c : Cell) (x y : Float) (n : ℕ) → c.halvings < 21 → Sized x (2048 + 512 * c.halvings + 512) → Sized y (2048 + 512 * c.halvings + 512)
+      → Measured (make_cell (ring ∷ holes) x y (c.halvings + 1) n)
   unfolding make_cell
   quarter c x y n k sx sy = record { few = omega arith; across = wider (omega arith) sx; along = wider (omega arith) sy; clear = refl }
 
-  four_measured : (c : Cell) (n : ℕ) (q : List Cell) → c.halvings < 21 → Measured c → Each Measured q → Each Measured (enter_four (ring ∷ holes) (halves_from h0 22) c n q)
+  four_measured :
+      (c : Cell) (n : ℕ) (q : List Cell) → c.halvings < 21 → Measured c → Each Measured q
+      → Each Measured (enter_four (ring ∷ holes) (halves_from h0 22) c n q)
   unfolding enter_four
   four_measured c n q k m a =
       let nh = later c.halvings 22 h0 (omega arith) hh in
@@ -113,7 +118,9 @@ module _ (ring : Ring) (holes : List Ring) (b : Bounded ring) (h0 : Float) (hh :
     unfolding splits_at splits_free
     same_test c best m s =
         elim (eq-or-lt_of_le m.few) [
-          | inl e ↦ rw (le-ltb c.halvings 21 (at_least e), is_true (bound_of (halves_from h0 22) c -ᶠ (better_of best c).d ≤ᶠ precision) (not_split h0 precision c best hh hp least e (clear_sized c m) s))
+          | inl e ↦
+              let near = not_split h0 precision c best hh hp least e (clear_sized c m) s in
+              rw (le-ltb c.halvings 21 (at_least e), is_true (bound_of (halves_from h0 22) c -ᶠ (better_of best c).d ≤ᶠ precision) near)
           | inr l ↦ rw (lt-ltb c.halvings 21 l)
         ]
       where
@@ -125,7 +132,8 @@ module _ (ring : Ring) (holes : List Ring) (b : Bounded ring) (h0 : Float) (hh :
         → ((q : List Cell) (best : Best) (n : ℕ) → Each Measured q → Sized best.d 26067
         → turns (ring ∷ holes) (halves_from h0 22) f precision room q best n ≡ turns_free (ring ∷ holes) (halves_from h0 22) f precision room q best n)
         → (q : List Cell) (best : Best) (n : ℕ) → Each Measured q → Sized best.d 26067
-        → turns (ring ∷ holes) (halves_from h0 22) (suc f) precision room q best n ≡ turns_free (ring ∷ holes) (halves_from h0 22) (suc f) precision room q best n
+        → turns (ring ∷ holes) (halves_from h0 22) (suc f) precision room q best n
+        ≡ turns_free (ring ∷ holes) (halves_from h0 22) (suc f) precision room q best n
     unfolding turns turns_free
     step f again [] best n a s = refl
     step f again (c ∷ t) best n a s =

@@ -1,5 +1,6 @@
 -- What becomes of the cells that wait as one enters or leaves: they stay in the slice that was lent. Definitions only.
 use Rattle.std.specs.Prelude.{◌≡◌, ℕ, ◌+◌, List, Option, Some, None, Float}
+use Rattle.deepest.specs.Cells.{Rows}
 use Rattle.deepest.specs.Queue.{Pushed, Popped}
 use Rattle.regions.specs.Ring.{Piece}
 use Rattle.deepest.specs.Deepest.{cell_of}
@@ -8,7 +9,7 @@ use Rattle.deepest.specs.declared.queue.Cell.{Cell}
 use Rattle.deepest.specs.declared.waiting.Waiting.{Waiting}
 
 -- none waits yet
-pub record Starts (l lent-halves : List Float) (w : Waiting) : Type 0 where
+pub record Starts (l : Rows) (lent-halves : List Float) (w : Waiting) : Type 0 where
   pub cells : w.cells.now ≡ l
   pub halves : w.halves.now ≡ lent-halves
   pub len : w.len ≡ 0

@@ -1,6 +1,8 @@
--- The limit of 21 halvings never cuts a search short: the deepest point is that of the source's search, for every piece whose outer ring lies within 1,024 and every precision of at least 1/1024.
+-- The limit of 21 halvings never cuts a search short: the deepest point is that of the source's search, for every piece whose
+-- outer ring lies within 1,024 and every precision of at least 1/1024.
 -- Rests on the law of its turns, and on the sizes of the first cells.
-use Rattle.std.specs.Prelude.{◌≡◌, ℕ, zero, suc, ◌+◌, ◌-◌, ◌<◌, ◌≤◌, Bool, true, false, cond, ◌&&◌, ◌||◌, T, Option, Some, None, List, [], ◌∷◌, length, nat_lt, Float}
+use Rattle.std.specs.Prelude.{◌≡◌, ℕ, zero, suc, ◌+◌, ◌-◌, ◌<◌, ◌≤◌, Bool, true, false, cond}
+use Rattle.std.specs.Prelude.{◌&&◌, ◌||◌, T, Option, Some, None, List, [], ◌∷◌, length, nat_lt, Float}
 use Rattle.std.proofs.Math.Path.{refl}
 use Rattle.std.proofs.Common.{arith, lit<}
 use Rattle.std.proofs.Math.Dec.{lit≤}
@@ -27,7 +29,8 @@ use Rattle.regions.specs.Ring.{Piece, outer}
 use Rattle.regions.specs.Sizes.{Bounded, clearance_sized}
 use Rattle.deepest.specs.Order.{halves_from, half_at}
 use Rattle.deepest.specs.Match.{Each, each_enter}
-use Rattle.deepest.specs.Deepest.{heft, sum_over, make_cell, next_corner, first_corner, Grid, waiting, over, grid_from, finish, centre_of, search_in, deepest_point}
+use Rattle.deepest.specs.Deepest.{heft, sum_over, make_cell, next_corner, first_corner, Grid, waiting}
+use Rattle.deepest.specs.Deepest.{over, grid_from, finish, centre_of, search_in, deepest_point}
 use Rattle.deepest.specs.Halvings.{1/1024ᶠ}
 use Rattle.deepest.specs.Unlimited.{turns_free, half_sized, Measured, unlimited}
 use Rattle.deepest.specs.declared.queue.Cell.{Cell}
@@ -77,7 +80,8 @@ max_sized x y k p q = go (is_nan x) (x <ᶠ y)
     go false false = p
 
 extent_sized :
-    (f : Float → Float → Float) (start : Float) → ((x : Float) → T (finite x) → f start x ≡ x) → ((x y : Float) → Sized x 1024 → Sized y 1024 → Sized (f x y) 1024)
+    (f : Float → Float → Float) (start : Float) → ((x : Float) → T (finite x) → f start x ≡ x)
+    → ((x y : Float) → Sized x 1024 → Sized y 1024 → Sized (f x y) 1024)
     → (at : Ring → ℕ → Float) (ring : Ring) (n : ℕ) → ((i : ℕ) → i < n → Sized (at ring i) 1024) → (i : ℕ) → i < n
     → Sized (extent f at start ring (suc i)) 1024
 unfolding extent
@@ -193,7 +197,8 @@ module _ (ring : Ring) (holes : List Ring) (b : Bounded ring) (e : Extents) (f :
           → finish (ring ∷ holes) (halves_from (side /ᶠ 2ᶠ) 22) precision room (centre_of (ring ∷ holes) e) g
           ≡ finish_free (ring ∷ holes) (halves_from (side /ᶠ 2ᶠ) 22) precision room (centre_of (ring ∷ holes) e) g
       go over a = refl
-      go (waiting q) a = unlimited ring holes b (side /ᶠ 2ᶠ) narrow precision hp least room (sum_over heft q) q (centre_of (ring ∷ holes) e) (length q) a centre_sized
+      go (waiting q) a =
+          unlimited ring holes b (side /ᶠ 2ᶠ) narrow precision hp least room (sum_over heft q) q (centre_of (ring ∷ holes) e) (length q) a centre_sized
 
 -- ---- the law
 unfoldable pub deepest_free : ℕ → Float → Piece → Deepest

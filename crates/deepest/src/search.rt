@@ -12,6 +12,7 @@ use crate::queue::{Cell, bound, half};
 use crate::seeds::{Tiling, seed};
 use crate::waiting::Waiting;
 use glyphs::bounds::ring_extents;
+use glyphs::rect::Point;
 use regions::clearance::signed_clearance;
 use regions::four::{Four, four_clearances};
 use regions::piece::RegionPiece;
@@ -83,7 +84,7 @@ fn answer(best: Best) -> Deepest
 
 // Puts the four quarters of a cell among those that wait.
 fn push_four(waiting: &mut Waiting, cell: Cell, piece: RegionPiece)
-    requires { (waiting.old.len * 5 + 20 ≤ length waiting.old.cells.now) × (cell.halvings < 21) × (waiting.old.entered + 4 ≤ 4611686018427387904) }
+    requires { (waiting.old.len + 4 ≤ length waiting.old.cells.now) × (cell.halvings < 21) × (waiting.old.entered + 4 ≤ 4611686018427387904) }
     ensures { Quarters (rings_of piece.entry) waiting.old cell waiting.new }
 {
     let k = cell.halvings + 1;
@@ -92,23 +93,17 @@ fn push_four(waiting: &mut Waiting, cell: Cell, piece: RegionPiece)
     let right = cell.x + nh;
     let low = cell.y - nh;
     let high = cell.y + nh;
-    let xs = Four {
-        a: left,
-        b: right,
-        c: left,
-        d: right,
+    let places = Four {
+        a: Point { x: left, y: low },
+        b: Point { x: right, y: low },
+        c: Point { x: left, y: high },
+        d: Point { x: right, y: high },
     };
-    let ys = Four {
-        a: low,
-        b: low,
-        c: high,
-        d: high,
-    };
-    let ds = four_clearances(xs, ys, piece);
-    waiting.push(left, low, ds.a, k);
-    waiting.push(right, low, ds.b, k);
-    waiting.push(left, high, ds.c, k);
-    waiting.push(right, high, ds.d, k);
+    let ds = four_clearances(places, piece);
+    waiting.push(places.a, ds.a, k);
+    waiting.push(places.b, ds.b, k);
+    waiting.push(places.c, ds.c, k);
+    waiting.push(places.d, ds.d, k);
 }
 
 // The search among the cells that wait.
@@ -118,6 +113,7 @@ fn explore(waiting: &mut Waiting, first: Best, precision: f64, piece: RegionPiec
     ensures { Explored (rings_of piece.entry) waiting.old.halves.now precision waiting.old.cells.now waiting.old.len first result }
 {
     let mut best = first;
+    // The body puts cells among those that wait, so these cannot be lent to a `for`.
     while let Some(cell) = waiting.pop() {
         best = better(best, cell);
         if splits(waiting.halves, cell, best, precision) {
@@ -131,9 +127,9 @@ fn explore(waiting: &mut Waiting, first: Best, precision: f64, piece: RegionPiec
 }
 
 // The deepest point within the bounds of the outer ring, with first cells of the given side.
-fn search(cells: &mut [f64], tiling: Tiling, precision: f64, piece: RegionPiece) -> Deepest
-    requires { length cells.old ≤ 500000 }
-    ensures { result ≡ search_in (rings_of piece.entry) precision (length cells.old / 5) tiling.bounds tiling.side }
+fn search(cells: &mut [[f64; 5]], tiling: Tiling, precision: f64, piece: RegionPiece) -> Deepest
+    requires { length cells.old ≤ 100000 }
+    ensures { result ≡ search_in (rings_of piece.entry) precision (length cells.old) tiling.bounds tiling.side }
 {
     let halves = halves_of(tiling.side / 2.0);
     let e = tiling.bounds;
@@ -153,7 +149,7 @@ pub fn deepest_point(piece: RegionPiece, precision: f64, cells: &mut [f64]) -> D
     ensures { result ≡ deepest_point (length cells.old / 5) precision (rings_of piece.entry) }
 {
     let outer = piece.outer();
-    if outer.len() / 2 < 3 {
+    if outer.len() < 3 {
         return Deepest::Nothing;
     }
     let bounds = ring_extents(outer);
@@ -163,7 +159,8 @@ pub fn deepest_point(piece: RegionPiece, precision: f64, cells: &mut [f64]) -> D
         return Deepest::Nothing;
     }
     let side = float::min(width, height);
-    search(&mut cells[..], Tiling { bounds, side }, precision, piece)
+    let (rows, _) = cells.as_chunks_mut::<5>();
+    search(rows, Tiling { bounds, side }, precision, piece)
 }
 
 // The deeper of two: the first unless the second is strictly deeper. Where one search found no room, there is none.

@@ -58,19 +58,22 @@ pub fn seed(waiting: &mut Waiting, tiling: Tiling, piece: RegionPiece) -> Result
     requires { (waiting.old.len ≡ 0) × (waiting.old.entered ≡ 0) }
     ensures { Seeds waiting.old
         (grid_from (rings_of piece.entry) waiting.old.halves.now tiling.bounds tiling.side
-        (length waiting.old.cells.now / 5) (first_corner tiling.bounds) [] 0)
+        (length waiting.old.cells.now) (first_corner tiling.bounds) [] 0)
         result waiting.new }
 {
     let h0 = half(waiting.halves, 0);
     let mut next = tiling.first_corner();
+    // Where `side` rounds away the corners have no end, so a `for` over them would need a `take` beside the test of the room.
     while let Some(corner) = next {
         if waiting.room() == 0 {
             return Err(NoRoom);
         }
-        let x = corner.x + h0;
-        let y = corner.y + h0;
-        let d = signed_clearance(x, y, piece);
-        waiting.push(x, y, d, 0);
+        let place = Point {
+            x: corner.x + h0,
+            y: corner.y + h0,
+        };
+        let d = signed_clearance(place.x, place.y, piece);
+        waiting.push(place, d, 0);
         next = tiling.next_corner(corner);
     }
     Ok(())

@@ -1,11 +1,13 @@
-// The cells that wait: a heap in the first `len` places of a lent slice, with how many have entered so far.
+// The cells that wait: a heap in the first `len` places of a lent slice, with how many have entered so far. The library's
+// `BinaryHeap` allocates, which nothing here may.
 ghost use Rattle.deepest.specs.Queue.{Queue};
 
 use crate::queue::{Cell, before, first_child, get, put};
+use glyphs::rect::Point;
 
 #[derive(Drop)]
 pub struct Waiting<'a> {
-    pub cells: &'a mut [f64],
+    pub cells: &'a mut [[f64; 5]],
     pub halves: &'a [f64],
     pub len: usize,
     pub entered: u64,
@@ -20,7 +22,7 @@ impl<'a> Waiting<'a> {
     ghost use Rattle.std.specs.Prelude.{◌≡◌, ◌+◌, ◌-◌, ◌*◌, ◌/◌, ◌<◌, ◌≤◌, length};
     ghost use Rattle.deepest.specs.Waiting.{Starts, Enters, Leaves};
 
-    pub fn new(cells: &'a mut [f64], halves: &'a [f64]) -> Waiting<'a>
+    pub fn new(cells: &'a mut [[f64; 5]], halves: &'a [f64]) -> Waiting<'a>
         ensures { Starts cells.old halves.now result }
     {
         Waiting {
@@ -33,23 +35,23 @@ impl<'a> Waiting<'a> {
 
     // How many cells more there is room for.
     pub fn room(&self) -> usize
-        ensures places { result ≡ length self.now.cells.now / 5 - self.now.len }
+        ensures places { result ≡ length self.now.cells.now - self.now.len }
         ensures few { self.now.len + result < 4611686018427387904 }
     {
-        self.cells.len() / 5 - self.len
+        self.cells.len() - self.len
     }
 
     // Makes a cell and puts it among those that wait. Its place is halved on the way up, so no `for` counts it. Meanwhile
     // the heap does not hold, so the loop has the slice alone.
-    pub fn push(&mut self, x: f64, y: f64, d: f64, halvings: u64)
-        requires room { self.old.len * 5 + 4 < length self.old.cells.now }
+    pub fn push(&mut self, place: Point, d: f64, halvings: u64)
+        requires room { self.old.len < length self.old.cells.now }
         requires few { halvings < 22 }
         requires early { self.old.entered < 4611686018427387904 }
-        ensures { Enters self.old x y d halvings self.new }
+        ensures { Enters self.old place.x place.y d halvings self.new }
     {
         let cell = Cell {
-            x,
-            y,
+            x: place.x,
+            y: place.y,
             d,
             halvings,
             entry: self.entered,
@@ -70,7 +72,8 @@ impl<'a> Waiting<'a> {
         self.entered += 1;
     }
 
-    // Takes out the cell that leaves first. The last one takes its place: doubled on the way down, in the slice alone.
+    // Takes out the cell that leaves first. The last one takes its place: doubled on the way down, so no `for` counts it, and
+    // in the slice alone.
     pub fn pop(&mut self) -> Option<Cell>
         ensures { Leaves self.old result self.new }
     {

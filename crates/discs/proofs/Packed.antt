@@ -51,7 +51,7 @@ use Rattle.scatter.specs.LowDiscrepancy.{lone_anchor, pack_scatter}
 use Rattle.discs.specs.Region.{pack_uniform_piece, pack_low_discrepancy_piece}
 use Rattle.discs.specs.Pieces.{pack_piece_from, pack_quota, StrictTrial, Packs}
 use Rattle.discs.specs.Bundles.{share_packed}
-use Rattle.discs.specs.declared.bundle.Packing.{Packing}
+use Rattle.discs.specs.declared.bundle.PackingAt.{PackingAt}
 use Rattle.discs.specs.declared.bundle.Share.{Share}
 use Rattle.discs.proofs.Written.{written_fits}
 
@@ -146,14 +146,15 @@ module _ (piece : Piece) (n : ℕ) (ctx : PackCtx) (obstacles : List Rectangle) 
 
 -- ---- by the arrangement
 
-module _ (packing : Packing) (ctx : PackCtx) (share : Share) (rng : Stream) where
-  pub packed_none : share.quota ≡ 0 → share_packed packing ctx share rng ≡ record { placed = []; rng = rng }
+module _ (how : PackingAt) (share : Share) (rng : Stream) where
+  pub packed_none : share.quota ≡ 0 → share_packed how share rng ≡ record { placed = []; rng = rng }
   unfolding pack_quota
   packed_none e = rw (eq-eqb share.quota 0 e)
 
   pub packed_by :
-      (arrangement : GlyphArrangement) → (share.quota ≡ 0 → ⊥) → packing.options.arrangement ≡ arrangement
-      → share_packed packing ctx share rng
-      ≡ pack_piece_from packing.numbers packing.options arrangement ctx packing.obstacles.now share.deepest (rings_of share.piece) share.quota rng
+      (arrangement : GlyphArrangement) → (share.quota ≡ 0 → ⊥) → how.packing.options.arrangement ≡ arrangement
+      → share_packed how share rng
+      ≡ pack_piece_from how.packing.numbers how.packing.options arrangement how.ctx how.packing.obstacles.now share.deepest (rings_of share.piece)
+      share.quota rng
   unfolding pack_quota
   packed_by arrangement h e = rw (ne_eqb share.quota 0 h, e)

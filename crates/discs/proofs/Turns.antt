@@ -59,7 +59,8 @@ module _
 
 module _
     {numbers : Spreading} {options : GlyphOptions} {ctx : PackCtx} {obstacles : List Rectangle} {pieces : List Piece} {deepests : List Deepest}
-    {quotas : List ℕ} {start : Stream} {entry : List Float} {ps : List Piece} {ds : List Deepest} {qs : List ℕ} {placed : ℕ} {rng : Stream} {spots : List Float}
+    {quotas : List ℕ} {start : Stream} {entry : List Float} {ps : List Piece} {ds : List Deepest} {qs : List ℕ} {placed : ℕ} {rng : Stream}
+    {spots : List Float}
     (g : Going numbers options ctx obstacles pieces deepests quotas start entry ps ds qs placed rng spots) where
   abbrev from : List Piece → List Deepest → List ℕ → Stream → List (List Point)
   from = packs numbers options ctx obstacles pieces deepests quotas start entry

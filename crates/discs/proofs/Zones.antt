@@ -6,7 +6,6 @@ use Rattle.std.proofs.Common.{
   suc,
   ◌+◌,
   ◌-◌,
-  ◌*◌,
   ◌≤◌,
   Bool,
   true,
@@ -37,6 +36,7 @@ use Rattle.discs.specs.Pieces.{pieces_of, Laid}
 use Rattle.discs.specs.PlaceGlyphs.{is_left_in}
 use Rattle.discs.specs.Floor.{row_is_left_in, cut, Handed, handed_at, handed_from, handed_work, lowered_by, holds_all, Steps}
 use Rattle.discs.specs.Walk.{lowering, holding}
+use Rattle.glyphs.specs.declared.rect.Point.{Point}
 use Rattle.glyphs.specs.declared.rect.Rectangle.{Rectangle}
 use Rattle.relax.specs.declared.Spreading.{Spreading}
 use Rattle.lattice.specs.declared.context.PackCtx.{PackCtx}
@@ -56,47 +56,47 @@ part_is a n l =
     let e : a + n - a ≡ n = omega arith in
     rw e
 
-length_pieces : (rings sizes : List ℕ) (coords : List Float) → length (pieces_of rings sizes coords) ≡ length rings
+length_pieces : (rings sizes : List ℕ) (points : List Point) → length (pieces_of rings sizes points) ≡ length rings
 unfolding pieces_of
-length_pieces [] sizes coords = refl
-length_pieces (n ∷ rings) sizes coords = ap suc (length_pieces rings (drop n sizes) (drop (sum (take n sizes) * 2) coords))
+length_pieces [] sizes points = refl
+length_pieces (n ∷ rings) sizes points = ap suc (length_pieces rings (drop n sizes) (drop (sum (take n sizes)) points))
 
 sum_append : (xs ys : List ℕ) → sum (xs ++ ys) ≡ sum xs + sum ys
 unfolding sum
 sum_append [] ys = omega arith
 sum_append (x ∷ xs) ys = omega (arith, sum_append xs ys)
 
--- the rings lie within the sizes, and their vertices within the coordinates
-pub laid_rings : (rings sizes : List ℕ) (coords : List Float) → Laid rings sizes coords → sum rings ≤ length sizes
+-- the rings lie within the sizes, and their vertices within the points
+pub laid_rings : (rings sizes : List ℕ) (points : List Point) → Laid rings sizes points → sum rings ≤ length sizes
 unfolding Laid sum
-laid_rings [] sizes coords l = omega arith
-laid_rings (n ∷ rings) sizes coords l =
-    omega (arith, l.0.sized, length-drop n sizes, laid_rings rings (drop n sizes) (drop (sum (take n sizes) * 2) coords) l.1)
+laid_rings [] sizes points l = omega arith
+laid_rings (n ∷ rings) sizes points l =
+    omega (arith, l.0.sized, length-drop n sizes, laid_rings rings (drop n sizes) (drop (sum (take n sizes)) points) l.1)
 
-pub laid_coords : (rings sizes : List ℕ) (coords : List Float) → Laid rings sizes coords → sum (take (sum rings) sizes) * 2 ≤ length coords
+pub laid_points : (rings sizes : List ℕ) (points : List Point) → Laid rings sizes points → sum (take (sum rings) sizes) ≤ length points
 unfolding Laid sum
-laid_coords [] sizes coords l = omega arith
-laid_coords (n ∷ rings) sizes coords l =
-    let v = sum (take n sizes) * 2 in
+laid_points [] sizes points l = omega arith
+laid_points (n ∷ rings) sizes points l =
+    let v = sum (take n sizes) in
     rw (take-add n (sum rings) sizes, sum_append)
-    (omega (arith, l.0.within, length-drop v coords, laid_coords rings (drop n sizes) (drop v coords) l.1))
+    (omega (arith, l.0.within, length-drop v points, laid_points rings (drop n sizes) (drop v points) l.1))
 
-module _ (s rings sizes : List ℕ) (coords : List Float) (quotas : List ℕ) (deepest : List Deepest) where
+module _ (s rings sizes : List ℕ) (points : List Point) (quotas : List ℕ) (deepest : List Deepest) where
   pub left_in :
       (row : Row) (at : Offsets) → at.piece + row.pieces ≤ length rings
-      → is_left_in (handed_at s rings sizes coords quotas deepest row at).zone ≡ row_is_left_in row
+      → is_left_in (handed_at s rings sizes points quotas deepest row at).zone ≡ row_is_left_in row
   unfolding is_left_in handed_at row_is_left_in
   left_in row at h = rw (length_pieces, length_cut at.piece row.pieces rings h)
 
 -- ---- all zones
 
-module _ (s rings sizes : List ℕ) (coords : List Float) (quotas : List ℕ) (deepest : List Deepest) where
+module _ (s rings sizes : List ℕ) (points : List Point) (quotas : List ℕ) (deepest : List Deepest) where
   -- the zone of a row, and the zones of these rows
   abbrev here : ZoneAt → Handed
-  here zone = handed_at s rings sizes coords quotas deepest zone.row zone.at
+  here zone = handed_at s rings sizes points quotas deepest zone.row zone.at
 
   abbrev from : List Row → Offsets → List Handed
-  from rows at = handed_from s rings sizes coords quotas deepest rows at
+  from rows at = handed_from s rings sizes points quotas deepest rows at
 
   pub handed_end : (rows : List Row) (at : Offsets) → rows ≡ [] → handed_work (from rows at) ≡ []
   unfolding handed_from handed_work

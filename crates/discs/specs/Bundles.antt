@@ -7,60 +7,70 @@ use Rattle.glyphs.specs.declared.rect.Point.{Point}
 use Rattle.glyphs.specs.declared.rect.Rectangle.{Rectangle}
 use Rattle.glyphs.specs.declared.stream.Stream.{Stream}
 use Rattle.regions.specs.Pieces.{rings_of}
-use Rattle.lattice.specs.declared.context.PackCtx.{PackCtx}
 use Rattle.scatter.specs.Random.{Thrown}
 use Rattle.discs.specs.Region.{pack_uniform_piece, pack_low_discrepancy_piece}
 use Rattle.discs.specs.Pieces.{deepests_of, pack_quota, pack_pieces_from, pack_region_from}
 use Rattle.discs.specs.Slices.{pieces_left}
-use Rattle.discs.specs.Floor.{Handed, handed_at, handed_from, handed_work, work_in, handed_feasible, Packable}
+use Rattle.discs.specs.Floor.{Handed, handed_at, handed_from, handed_work, handed_feasible, Packable, start}
+use Rattle.discs.specs.Walk.{holding}
 use Rattle.discs.specs.declared.rows.Offsets.{Offsets}
 use Rattle.discs.specs.declared.rows.Row.{Row}
 use Rattle.discs.specs.declared.bundle.Zones.{Zones}
 use Rattle.discs.specs.declared.bundle.Region.{Region}
 use Rattle.discs.specs.declared.bundle.Share.{Share}
 use Rattle.discs.specs.declared.bundle.Packing.{Packing}
+use Rattle.discs.specs.declared.bundle.PackingAt.{PackingAt}
 use Rattle.discs.specs.declared.bundle.Lent.{Lent}
 use Rattle.discs.specs.declared.bundle.Work.{Work}
 
-abbrev pub zones_work : Zones → List Handed
-zones_work zones = work_in zones.bytes.now zones.rows.now zones.rings.now zones.sizes.now zones.coords.now zones.quotas.now zones.deepest.now
+module _ (zones : Zones) where
+  -- the zone of a row, as it is handed in
+  abbrev pub zone_at : Row → Offsets → Handed
+  zone_at =
+      handed_at zones.bytes.now zones.layout.rings.now zones.layout.sizes.now zones.layout.points.now zones.quotas.now zones.deepest.now
 
--- of these rows, whose pieces start there
-abbrev pub work_from : Zones → List Row → Offsets → List Handed
-work_from zones rows at =
-    handed_work (handed_from zones.bytes.now zones.rings.now zones.sizes.now zones.coords.now zones.quotas.now zones.deepest.now rows at)
+  abbrev pub IsPackable : Row → Offsets → Type 0
+  IsPackable =
+      Packable zones.bytes.now zones.layout.rings.now zones.layout.sizes.now zones.layout.points.now zones.quotas.now zones.deepest.now
 
--- the zone of a row, as it is handed in
-abbrev pub zone_at : Zones → Row → Offsets → Handed
-zone_at zones row at = handed_at zones.bytes.now zones.rings.now zones.sizes.now zones.coords.now zones.quotas.now zones.deepest.now row at
+  -- the zones left in, of these rows, whose pieces start there, and of all
+  abbrev pub work_from : List Row → Offsets → List Handed
+  work_from rows at =
+      handed_work
+      (handed_from zones.bytes.now zones.layout.rings.now zones.layout.sizes.now zones.layout.points.now zones.quotas.now zones.deepest.now rows at)
 
-abbrev pub IsPackable : Zones → Row → Offsets → Type 0
-IsPackable zones row at = Packable zones.bytes.now zones.rings.now zones.sizes.now zones.coords.now zones.quotas.now zones.deepest.now row at
+  abbrev pub zones_work : List Handed
+  zones_work = work_from zones.layout.rows.now start
 
 -- whether the zones left in hold their marks, with these obstacles at a radius
 abbrev pub fits_in : Packing → Zones → List Rectangle → Float → Bool
 fits_in packing zones = handed_feasible packing.numbers packing.options (zones_work zones)
 
 -- the marks of one piece: as a lattice, as a sequence of low discrepancy, and by the arrangement, with the stream after them
-abbrev pub lattice_packed : PackCtx → Share → List Rectangle → Bool → List Point
-lattice_packed ctx share obstacles rectangular = pack_uniform_piece share.deepest (rings_of share.piece) share.quota ctx obstacles rectangular
+abbrev pub lattice_packed : PackingAt → Share → Bool → List Point
+lattice_packed how share = pack_uniform_piece share.deepest (rings_of share.piece) share.quota how.ctx how.packing.obstacles.now
 
-abbrev pub scatter_packed : PackCtx → Share → List Rectangle → List Point
-scatter_packed ctx share obstacles = pack_low_discrepancy_piece share.deepest (rings_of share.piece) share.quota ctx obstacles
+abbrev pub scatter_packed : PackingAt → Share → List Point
+scatter_packed how share = pack_low_discrepancy_piece share.deepest (rings_of share.piece) share.quota how.ctx how.packing.obstacles.now
 
-abbrev pub share_packed : Packing → PackCtx → Share → Stream → Thrown
-share_packed packing ctx share rng =
-    pack_quota packing.numbers packing.options ctx packing.obstacles.now share.deepest (rings_of share.piece) share.quota rng
+abbrev pub share_packed : PackingAt → Share → Stream → Thrown
+share_packed how share =
+    pack_quota how.packing.numbers how.packing.options how.ctx how.packing.obstacles.now share.deepest (rings_of share.piece) share.quota
 
 -- the marks of a region's pieces, from a stream and from that of its key
-abbrev pub pieces_packed : Packing → PackCtx → Region → Stream → List (List Point)
-pieces_packed packing ctx region start =
-    pack_pieces_from packing.numbers packing.options ctx packing.obstacles.now (pieces_left region.pieces) (deepests_of region.deepest.now)
-    region.quotas.now start
+abbrev pub pieces_packed : PackingAt → Region → Stream → List (List Point)
+pieces_packed how region =
+    pack_pieces_from how.packing.numbers how.packing.options how.ctx how.packing.obstacles.now (pieces_left region.pieces)
+    (deepests_of region.deepest.now) region.quotas.now
 
-abbrev pub region_packed : Packing → PackCtx → Region → List (List Point)
-region_packed packing ctx region =
-    pack_region_from packing.numbers packing.options ctx packing.obstacles.now region.key.now (pieces_left region.pieces) region.quotas.now region.deepest.now
+abbrev pub region_packed : PackingAt → Region → List (List Point)
+region_packed how region =
+    pack_region_from how.packing.numbers how.packing.options how.ctx how.packing.obstacles.now region.key.now (pieces_left region.pieces)
+    region.quotas.now region.deepest.now
+
+-- whether a zone holds its marks in a trial
+abbrev pub zone_held : PackingAt → Handed → Bool
+zone_held how = holding how.packing.numbers how.packing.options how.ctx how.packing.obstacles.now
 
 -- what is lent has room for the obstacles and for n marks
 pub record HasRoom (packing : Packing) (n : ℕ) (lent : Lent) : Type 0 where

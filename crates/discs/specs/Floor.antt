@@ -1,5 +1,5 @@
 -- The zones of a job in flat slices, with the quotas and the deepest points of their pieces. Definitions only.
-use Rattle.std.specs.Prelude.{◌≡◌, ℕ, ◌+◌, ◌*◌, ◌≤◌, Bool, true, cond, ◌&&◌, List, [], ◌∷◌, length, take, drop, ◌==◌, nat_lt, Float, Option}
+use Rattle.std.specs.Prelude.{◌≡◌, ℕ, ◌+◌, ◌≤◌, Bool, true, cond, ◌&&◌, List, [], ◌∷◌, length, take, drop, ◌==◌, nat_lt, Float, Option}
 use mathlib.Core.List.{foldl}
 use native.Mathlib.Bridge.{le_prop}
 use Rattle.laws.specs.Any.{all}
@@ -41,23 +41,23 @@ pub record Handed : Type 0 where
 abbrev pub cut : {A : Type 0} → ℕ → ℕ → List A → List A
 cut from n l = take n (drop from l)
 
--- where the first zone's pieces, rings and coordinates start, and where those of the zone after a row do
+-- where the first zone's pieces, rings and points start, and where those of the zone after a row do
 abbrev pub start : Offsets
-start = record { piece = 0; ring = 0; coord = 0 }
+start = record { piece = 0; ring = 0; point = 0 }
 
 unfoldable pub past_row : List ℕ → List ℕ → Row → Offsets → Offsets
 past_row rings sizes row at =
     let own = take (sum (cut at.piece row.pieces rings)) (drop at.ring sizes) in
-    record { piece = at.piece + row.pieces; ring = at.ring + length own; coord = at.coord + sum own * 2 }
+    record { piece = at.piece + row.pieces; ring = at.ring + length own; point = at.point + sum own }
 
-module _ (s rings sizes : List ℕ) (coords : List Float) (quotas : List ℕ) (deepest : List Deepest) where
+module _ (s rings sizes : List ℕ) (points : List Point) (quotas : List ℕ) (deepest : List Deepest) where
   unfoldable pub handed_at : Row → Offsets → Handed
   handed_at row at =
       record {
         zone = record {
           key = cut row.key row.len s;
           count = row.count;
-          pieces = pieces_of (cut at.piece row.pieces rings) (drop at.ring sizes) (drop at.coord coords);
+          pieces = pieces_of (cut at.piece row.pieces rings) (drop at.ring sizes) (drop at.point points);
         };
         quotas = cut at.piece row.pieces quotas;
         deepests = deepests_of (cut at.piece row.pieces deepest);
@@ -73,8 +73,8 @@ unfoldable pub handed_work : List Handed → List Handed
 handed_work [] = []
 handed_work (handed ∷ rest) = cond (is_left_in handed.zone) (handed ∷ handed_work rest) (handed_work rest)
 
-abbrev pub work_in : List ℕ → List Row → List ℕ → List ℕ → List Float → List ℕ → List Deepest → List Handed
-work_in s rows rings sizes coords quotas deepest = handed_work (handed_from s rings sizes coords quotas deepest rows start)
+abbrev pub work_in : List ℕ → List Row → List ℕ → List ℕ → List Point → List ℕ → List Deepest → List Handed
+work_in s rows rings sizes points quotas deepest = handed_work (handed_from s rings sizes points quotas deepest rows start)
 
 -- ---- analytic_r_hi and feasible, with what is handed in
 
@@ -113,56 +113,56 @@ pub record Steps (rings sizes : List ℕ) (rows : List Row) (at : Offsets) (zone
   pub past : next ≡ past_row rings sizes zone.row zone.at
 
 -- a zone's pieces lie within the slices
-pub record Within (rings sizes : List ℕ) (coords : List Float) (row : Row) (at : Offsets) : Type 0 where
+pub record Within (rings sizes : List ℕ) (points : List Point) (row : Row) (at : Offsets) : Type 0 where
   pub pieces : at.piece + row.pieces ≤ length rings
   pub ring : at.ring ≤ length sizes
-  pub coord : at.coord ≤ length coords
-  pub laid : Laid (cut at.piece row.pieces rings) (drop at.ring sizes) (drop at.coord coords)
+  pub point : at.point ≤ length points
+  pub laid : Laid (cut at.piece row.pieces rings) (drop at.ring sizes) (drop at.point points)
 
 -- a zone has at most 2,000 marks, its pieces lie within the slices, and each has a deepest point
-pub record Stands (rings sizes : List ℕ) (coords : List Float) (deepest : List Deepest) (row : Row) (at : Offsets) : Type 0 where
+pub record Stands (rings sizes : List ℕ) (points : List Point) (deepest : List Deepest) (row : Row) (at : Offsets) : Type 0 where
   pub pieces : at.piece + row.pieces ≤ length rings
   pub ring : at.ring ≤ length sizes
-  pub coord : at.coord ≤ length coords
-  pub laid : Laid (cut at.piece row.pieces rings) (drop at.ring sizes) (drop at.coord coords)
-  pub points : at.piece + row.pieces ≤ length deepest
+  pub point : at.point ≤ length points
+  pub laid : Laid (cut at.piece row.pieces rings) (drop at.ring sizes) (drop at.point points)
+  pub found : at.piece + row.pieces ≤ length deepest
   pub marks : row.count ≤ 2000
 
 -- and its key lies within the bytes, each piece has a quota, and the quotas of a zone left in are at most 2,000
-pub record Packable (s rings sizes : List ℕ) (coords : List Float) (quotas : List ℕ) (deepest : List Deepest) (row : Row) (at : Offsets) : Type 0 where
-  pub stands : Stands rings sizes coords deepest row at
+pub record Packable (s rings sizes : List ℕ) (points : List Point) (quotas : List ℕ) (deepest : List Deepest) (row : Row) (at : Offsets) : Type 0 where
+  pub stands : Stands rings sizes points deepest row at
   pub key : row.key + row.len ≤ length s
   pub shared : at.piece + row.pieces ≤ length quotas
   pub few : row_is_left_in row ≡ true → sum (cut at.piece row.pieces quotas) ≤ 2000
 
-abbrev pub Floor : List ℕ → List Row → List ℕ → List ℕ → List Float → List ℕ → List Deepest → Type 0
-Floor s rows rings sizes coords quotas deepest = EachRow rings sizes (Packable s rings sizes coords quotas deepest) rows start
+abbrev pub Floor : List ℕ → List Row → List ℕ → List ℕ → List Point → List ℕ → List Deepest → Type 0
+Floor s rows rings sizes points quotas deepest = EachRow rings sizes (Packable s rings sizes points quotas deepest) rows start
 
-within_prop : (rings sizes : List ℕ) (coords : List Float) (row : Row) (at : Offsets) → IsProp (Within rings sizes coords row at)
-within_prop rings sizes coords row at a b = λ i. record {
+within_prop : (rings sizes : List ℕ) (points : List Point) (row : Row) (at : Offsets) → IsProp (Within rings sizes points row at)
+within_prop rings sizes points row at a b = λ i. record {
   pieces = le_prop a.pieces b.pieces i;
   ring = le_prop a.ring b.ring i;
-  coord = le_prop a.coord b.coord i;
-  laid = laid_prop (cut at.piece row.pieces rings) (drop at.ring sizes) (drop at.coord coords) a.laid b.laid i;
+  point = le_prop a.point b.point i;
+  laid = laid_prop (cut at.piece row.pieces rings) (drop at.ring sizes) (drop at.point points) a.laid b.laid i;
 }
 
 stands_prop :
-    (rings sizes : List ℕ) (coords : List Float) (deepest : List Deepest) (row : Row) (at : Offsets)
-    → IsProp (Stands rings sizes coords deepest row at)
-stands_prop rings sizes coords deepest row at a b = λ i. record {
+    (rings sizes : List ℕ) (points : List Point) (deepest : List Deepest) (row : Row) (at : Offsets)
+    → IsProp (Stands rings sizes points deepest row at)
+stands_prop rings sizes points deepest row at a b = λ i. record {
   pieces = le_prop a.pieces b.pieces i;
   ring = le_prop a.ring b.ring i;
-  coord = le_prop a.coord b.coord i;
-  laid = laid_prop (cut at.piece row.pieces rings) (drop at.ring sizes) (drop at.coord coords) a.laid b.laid i;
-  points = le_prop a.points b.points i;
+  point = le_prop a.point b.point i;
+  laid = laid_prop (cut at.piece row.pieces rings) (drop at.ring sizes) (drop at.point points) a.laid b.laid i;
+  found = le_prop a.found b.found i;
   marks = le_prop a.marks b.marks i;
 }
 
 packable_prop :
-    (s rings sizes : List ℕ) (coords : List Float) (quotas : List ℕ) (deepest : List Deepest) (row : Row) (at : Offsets)
-    → IsProp (Packable s rings sizes coords quotas deepest row at)
-packable_prop s rings sizes coords quotas deepest row at a b = λ i. record {
-  stands = stands_prop rings sizes coords deepest row at a.stands b.stands i;
+    (s rings sizes : List ℕ) (points : List Point) (quotas : List ℕ) (deepest : List Deepest) (row : Row) (at : Offsets)
+    → IsProp (Packable s rings sizes points quotas deepest row at)
+packable_prop s rings sizes points quotas deepest row at a b = λ i. record {
+  stands = stands_prop rings sizes points deepest row at a.stands b.stands i;
   key = le_prop a.key b.key i;
   shared = le_prop a.shared b.shared i;
   few = λ e. le_prop (a.few e) (b.few e) i;
@@ -176,15 +176,15 @@ each_prop rings sizes P p [] at a b = λ i. tt
 each_prop rings sizes P p (row ∷ rows) at a b = λ i. (p row at a.0 b.0 i, each_prop rings sizes P p rows (past_row rings sizes row at) a.1 b.1 i)
 
 pub rows_within_prop :
-    (rings sizes : List ℕ) (coords : List Float) (rows : List Row) (at : Offsets)
-    → IsProp (EachRow rings sizes (Within rings sizes coords) rows at)
-rows_within_prop rings sizes coords = each_prop rings sizes (Within rings sizes coords) (within_prop rings sizes coords)
+    (rings sizes : List ℕ) (points : List Point) (rows : List Row) (at : Offsets)
+    → IsProp (EachRow rings sizes (Within rings sizes points) rows at)
+rows_within_prop rings sizes points = each_prop rings sizes (Within rings sizes points) (within_prop rings sizes points)
 
 pub floor_prop :
-    (s : List ℕ) (rows : List Row) (rings sizes : List ℕ) (coords : List Float) (quotas : List ℕ) (deepest : List Deepest)
-    → IsProp (Floor s rows rings sizes coords quotas deepest)
-floor_prop s rows rings sizes coords quotas deepest =
-    each_prop rings sizes (Packable s rings sizes coords quotas deepest) (packable_prop s rings sizes coords quotas deepest) rows start
+    (s : List ℕ) (rows : List Row) (rings sizes : List ℕ) (points : List Point) (quotas : List ℕ) (deepest : List Deepest)
+    → IsProp (Floor s rows rings sizes points quotas deepest)
+floor_prop s rows rings sizes points quotas deepest =
+    each_prop rings sizes (Packable s rings sizes points quotas deepest) (packable_prop s rings sizes points quotas deepest) rows start
 
 -- what is lent has room for the obstacles and for 2,000 marks
 pub record Lends (obstacles near : List Rectangle) (second : List Float) (flags : List Bool) (spots : List Float) : Type 0 where

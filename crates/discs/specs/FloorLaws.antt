@@ -2,6 +2,7 @@
 -- Rests on the definitions.
 use Rattle.std.specs.Prelude.{◌≡◌, ℕ, Bool, true, false, cond, List, [], ◌∷◌, map, Float, Option}
 use Rattle.std.proofs.Math.Path.{refl, ap}
+use Rattle.glyphs.specs.declared.rect.Point.{Point}
 use Rattle.glyphs.specs.declared.rect.Rectangle.{Rectangle}
 use Rattle.deepest.specs.declared.search.Deepest.{Deepest}
 use Rattle.discs.specs.Region.{Zone, quotas, deepest_of}
@@ -48,15 +49,15 @@ stated_any f g a b r c d = refl
 -- ---- what the code asks
 
 pub rows_stand :
-    (s rings sizes : List ℕ) (coords : List Float) (quotas : List ℕ) (deepest : List Deepest) (rows : List Row) (at : Offsets)
-    → EachRow rings sizes (Packable s rings sizes coords quotas deepest) rows at
-    → EachRow rings sizes (Stands rings sizes coords deepest) rows at
+    (s rings sizes : List ℕ) (points : List Point) (quotas : List ℕ) (deepest : List Deepest) (rows : List Row) (at : Offsets)
+    → EachRow rings sizes (Packable s rings sizes points quotas deepest) rows at
+    → EachRow rings sizes (Stands rings sizes points deepest) rows at
 unfolding EachRow
-rows_stand s rings sizes coords quotas deepest [] at e = tt
-rows_stand s rings sizes coords quotas deepest (row ∷ rows) at e =
-    (e.0.stands, rows_stand s rings sizes coords quotas deepest rows (past_row rings sizes row at) e.1)
+rows_stand s rings sizes points quotas deepest [] at e = tt
+rows_stand s rings sizes points quotas deepest (row ∷ rows) at e =
+    (e.0.stands, rows_stand s rings sizes points quotas deepest rows (past_row rings sizes row at) e.1)
 
 pub stands_within :
-    {rings sizes : List ℕ} {coords : List Float} {deepest : List Deepest} {row : Row} {at : Offsets}
-    → Stands rings sizes coords deepest row at → Within rings sizes coords row at
-stands_within h = record { pieces = h.pieces; ring = h.ring; coord = h.coord; laid = h.laid }
+    {rings sizes : List ℕ} {points : List Point} {deepest : List Deepest} {row : Row} {at : Offsets}
+    → Stands rings sizes points deepest row at → Within rings sizes points row at
+stands_within h = record { pieces = h.pieces; ring = h.ring; point = h.point; laid = h.laid }

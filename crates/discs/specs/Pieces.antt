@@ -1,5 +1,5 @@
 -- discs.rs, `pack_region`, over a zone that lies in flat slices, with its quotas and the deepest points of its pieces handed in. Definitions only.
-use Rattle.std.specs.Prelude.{◌≡◌, ℕ, ◌*◌, ◌<◌, ◌≤◌, true, false, cond, List, [], ◌∷◌, map, length, take, drop, ◌==◌, Float}
+use Rattle.std.specs.Prelude.{◌≡◌, ℕ, ◌<◌, ◌≤◌, true, false, cond, List, [], ◌∷◌, map, length, take, drop, ◌==◌, Float}
 use mathlib.Core.List.{flatten}
 use native.Mathlib.Bridge.{le_prop}
 use Rattle.laws.specs.Lists.{written}
@@ -24,10 +24,10 @@ use Rattle.discs.specs.declared.options.GlyphOptions.{GlyphOptions}
 
 -- ---- what lies in the slices
 
--- the pieces of so many rings each: the rings' sizes and the coordinates lie end to end
-unfoldable pub pieces_of : List ℕ → List ℕ → List Float → List Piece
-pieces_of [] sizes coords = []
-pieces_of (n ∷ rings) sizes coords = piece_of (take n sizes) coords ∷ pieces_of rings (drop n sizes) (drop (sum (take n sizes) * 2) coords)
+-- the pieces of so many rings each: the rings' sizes and the points lie end to end
+unfoldable pub pieces_of : List ℕ → List ℕ → List Point → List Piece
+pieces_of [] sizes points = []
+pieces_of (n ∷ rings) sizes points = piece_of (take n sizes) points ∷ pieces_of rings (drop n sizes) (drop (sum (take n sizes)) points)
 
 -- a deepest point as it is read; there is none where the clearance is not above 0
 unfoldable pub deepest_from : Deepest → Deepest
@@ -72,23 +72,23 @@ pack_region_from numbers options ctx obstacles key pieces quotas deepests =
 
 -- ---- what the code asks and answers
 
--- a piece of n rings: it has an outer one, and its sizes and coordinates lie within the slices
-pub record Lies (n : ℕ) (sizes : List ℕ) (coords : List Float) : Type 0 where
+-- a piece of n rings: it has an outer one, and its sizes and points lie within the slices
+pub record Lies (n : ℕ) (sizes : List ℕ) (points : List Point) : Type 0 where
   pub some : 0 < n
   pub sized : n ≤ length sizes
-  pub within : sum (take n sizes) * 2 ≤ length coords
+  pub within : sum (take n sizes) ≤ length points
 
 -- the pieces, each behind the one before
-unfoldable pub Laid : List ℕ → List ℕ → List Float → Type 0
-Laid [] sizes coords = Unit {0}
-Laid (n ∷ rings) sizes coords = Lies n sizes coords × Laid rings (drop n sizes) (drop (sum (take n sizes) * 2) coords)
+unfoldable pub Laid : List ℕ → List ℕ → List Point → Type 0
+Laid [] sizes points = Unit {0}
+Laid (n ∷ rings) sizes points = Lies n sizes points × Laid rings (drop n sizes) (drop (sum (take n sizes)) points)
 
-pub laid_prop : (rings sizes : List ℕ) (coords : List Float) → IsProp (Laid rings sizes coords)
+pub laid_prop : (rings sizes : List ℕ) (points : List Point) → IsProp (Laid rings sizes points)
 unfolding Laid
-laid_prop [] sizes coords a b = λ i. tt
-laid_prop (n ∷ rings) sizes coords a b = λ i. (
+laid_prop [] sizes points a b = λ i. tt
+laid_prop (n ∷ rings) sizes points a b = λ i. (
   record { some = le_prop a.0.some b.0.some i; sized = le_prop a.0.sized b.0.sized i; within = le_prop a.0.within b.0.within i },
-  laid_prop rings (drop n sizes) (drop (sum (take n sizes) * 2) coords) a.1 b.1 i,
+  laid_prop rings (drop n sizes) (drop (sum (take n sizes)) points) a.1 b.1 i,
 )
 
 -- a trial is strict

@@ -5,20 +5,19 @@ use Rattle.discs.specs.Floor.{EachRow, Steps, start, past_row}
 use Rattle.discs.specs.declared.rows.Offsets.{Offsets}
 use Rattle.discs.specs.declared.rows.Row.{Row}
 use Rattle.discs.specs.declared.rows.ZoneAt.{ZoneAt}
-use Rattle.discs.specs.declared.rows.Walk.{Walk}
+use Rattle.discs.specs.declared.layout.Layout.{Layout}
+use Rattle.discs.specs.declared.layout.Walk.{Walk}
 
--- a walk over all these rows
-pub record WalksOver (all_rings all_sizes : List ℕ) (all_rows : List Row) (walk : Walk) : Type 0 where
-  pub rows : walk.rows.now ≡ all_rows
+-- a walk over all zones
+pub record WalksOver (all : Layout) (walk : Walk) : Type 0 where
+  pub layout : walk.layout ≡ all
+  pub rows : walk.rows.now ≡ all.rows.now
   pub at : walk.at ≡ start
-  pub rings : walk.rings.now ≡ all_rings
-  pub sizes : walk.sizes.now ≡ all_sizes
 
 -- a call gives a zone and leaves the others, or none where none is left
 pub record StepsOn (s : Walk) (zone : ZoneAt) (t : Walk) : Type 0 where
-  pub step : Steps s.rings.now s.sizes.now s.rows.now s.at zone t.rows.now t.at
-  pub rings : t.rings.now ≡ s.rings.now
-  pub sizes : t.sizes.now ≡ s.sizes.now
+  pub step : Steps s.layout.rings.now s.layout.sizes.now s.rows.now s.at zone t.rows.now t.at
+  pub layout : t.layout ≡ s.layout
 
 abbrev pub GivesZone : Walk → Option ZoneAt → Walk → Type 0
 GivesZone s r t = MatchOption r ((s.rows.now ≡ []) × (t.rows.now ≡ [])) (λ zone. StepsOn s zone t)

@@ -1,39 +1,30 @@
 // What the packings of a call share, and what is lent to them.
 ghost use Rattle.std.specs.Prelude.{◌≤◌, length};
 ghost use Rattle.discs.specs.Floor.{Floor, floor_prop};
-ghost use Rattle.discs.specs.ZoneWalk.{WalksOver};
+ghost use Rattle.discs.specs.Pieces.{StrictTrial};
 
+use crate::layout::Layout;
 use crate::options::GlyphOptions;
 use crate::pieces::Pieces;
-use crate::rows::{Row, Walk};
 use deepest::search::Deepest;
 use glyphs::rect::Rectangle;
+use lattice::context::PackCtx;
 use regions::piece::RegionPiece;
 use relax::Spreading;
 
-// The zones of a job as they lie in slices, with the quotas and the deepest points of their pieces.
+// The zones of a job, with the quotas and the deepest points of their pieces. These lie in two slices: the points are found by
+// reading the quotas, and of one slice of both each call that puts points would also have to say that the quotas stay.
 #[derive(Clone, Copy)]
 pub struct Zones<'a> {
     pub bytes: &'a [u8],
-    pub rows: &'a [Row],
-    pub rings: &'a [usize],
-    pub sizes: &'a [usize],
-    pub coords: &'a [f64],
+    pub layout: Layout<'a>,
     pub quotas: &'a [usize],
     pub deepest: &'a [Deepest],
-    pub ghost floor: { Floor bytes.now rows.now rings.now sizes.now coords.now quotas.now deepest.now } by { floor_prop _ _ _ _ _ _ _ },
+    pub ghost floor: { Floor bytes.now layout.rows.now layout.rings.now layout.sizes.now layout.points.now
+        quotas.now deepest.now } by { floor_prop _ _ _ _ _ _ _ },
 }
 
-impl<'a> Zones<'a> {
-    // The zones, one by one.
-    pub fn walk(self) -> Walk<'a>
-        ensures { WalksOver self.entry.rings.now self.entry.sizes.now self.entry.rows.now result }
-    {
-        Walk::over(self.rows, self.rings, self.sizes, self.coords)
-    }
-}
-
-// A zone's key, and its pieces with the quota and the deepest point of each.
+// A zone's key, and its pieces with the quota and the deepest point of each, which lie in two slices as those of all zones do.
 #[derive(Clone, Copy)]
 pub struct Region<'a> {
     pub key: &'a [u8],
@@ -60,7 +51,16 @@ pub struct Packing<'a> {
     pub obstacles: &'a [Rectangle],
 }
 
-// Memory for the packing of one piece: for the obstacles near it, and two floats and a flag for each mark.
+// A packing at a radius: a trial of it, which is strict, or the final one.
+#[derive(Clone, Copy)]
+pub struct PackingAt<'a> {
+    pub packing: Packing<'a>,
+    pub ctx: PackCtx,
+    pub ghost strict: { StrictTrial ctx.mode },
+}
+
+// Memory for the packing of one piece: for the obstacles near it, and for each mark a flag, and two floats, since C lends floats.
+// Of obstacles there may be any number, so that room for them is asked for at each call.
 #[derive(Drop)]
 pub struct Lent<'a> {
     pub near: &'a mut [Rectangle],
@@ -68,7 +68,7 @@ pub struct Lent<'a> {
     pub flags: &'a mut [bool],
 }
 
-// Memory for 2,000 marks, with their spots: two floats each, since C lends floats.
+// Memory for 2,000 marks, with their spots, of two floats each.
 #[derive(Drop)]
 pub struct Work<'a> {
     pub lent: Lent<'a>,

@@ -5,9 +5,10 @@ ghost use Rattle.discs.specs.Pieces.{deepests_of};
 ghost use Rattle.discs.specs.Slices.{pieces_left};
 ghost use Rattle.discs.specs.Floor.{row_is_left_in, work_in, deepest_in, handed_r_hi, EachRow, Stands, start};
 
+use crate::layout::Layout;
 use crate::piece::deepest_from;
 use crate::pieces::Pieces;
-use crate::rows::{Row, Walk, is_left_in, pieces_at};
+use crate::rows::{Row, is_left_in};
 use deepest::search::{Deepest, deeper};
 use glyphs::rect::is_finite;
 use regions::area::piece_area;
@@ -55,7 +56,10 @@ fn lowered(gap: f64, n: usize, r_hi: f64, area: f64, found: Deepest) -> f64
 // The same of a zone, where it is left in.
 fn lowered_by(gap: f64, r_hi: f64, row: Row, pieces: Pieces<'_>, deepest: &[Deepest]) -> f64
     requires { row.count ≤ 2000 }
-    ensures { result ≡ cond (row_is_left_in row) (lowered gap row.count r_hi (area_of (pieces_left pieces.entry)) (deepest_in (deepests_of deepest.now))) r_hi }
+    ensures { result
+        ≡ cond (row_is_left_in row)
+        (lowered gap row.count r_hi (area_of (pieces_left pieces.entry)) (deepest_in (deepests_of deepest.now)))
+        r_hi }
 {
     if !is_left_in(row) {
         return r_hi;
@@ -71,22 +75,19 @@ fn if_positive(r_hi: f64) -> Option<f64>
 }
 
 // The greatest radius that the zones left in may have.
-pub fn analytic_r_hi(
-    gap: f64,
-    rows: &[Row],
-    rings: &[usize],
-    sizes: &[usize],
-    coords: &[f64],
-    deepest: &[Deepest],
-) -> Option<f64>
-    requires { EachRow rings.now sizes.now (Stands rings.now sizes.now coords.now deepest.now) rows.now start }
-    ensures { (s quotas : List ℕ) → result ≡ handed_r_hi (work_in s rows.now rings.now sizes.now coords.now quotas deepest.now) gap }
+pub fn analytic_r_hi(gap: f64, layout: Layout<'_>, deepest: &[Deepest]) -> Option<f64>
+    requires { EachRow layout.rings.now layout.sizes.now (Stands layout.rings.now layout.sizes.now layout.points.now deepest.now) layout.rows.now start }
+    ensures { (s quotas : List ℕ)
+        → result
+        ≡ handed_r_hi
+        (work_in s layout.entry.rows.now layout.entry.rings.now layout.entry.sizes.now layout.entry.points.now quotas deepest.now)
+        gap }
 {
     let mut r_hi = 1.0 / 0.0;
-    for zone in Walk::over(rows, rings, sizes, coords) {
+    for zone in layout.walk() {
         let p = zone.at.piece;
         let q = p + zone.row.pieces;
-        let pieces = pieces_at(rings, sizes, coords, zone);
+        let pieces = layout.pieces(zone);
         r_hi = lowered_by(gap, r_hi, zone.row, pieces, &deepest[p..q]);
     }
     if_positive(r_hi)

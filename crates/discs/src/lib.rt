@@ -3,6 +3,7 @@
 
 pub mod bundle;
 pub mod ceiling;
+pub mod layout;
 pub mod options;
 pub mod piece;
 pub mod pieces;

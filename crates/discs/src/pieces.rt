@@ -3,15 +3,16 @@ ghost use Rattle.std.specs.Prelude.{◌≡◌, ◌<◌, ◌^◌};
 ghost use Rattle.regions.specs.Ring.{sum};
 ghost use Rattle.discs.specs.Pieces.{Laid, laid_prop};
 
+use glyphs::rect::Point;
 use regions::piece::RegionPiece;
 
-// How many rings each piece has, the sizes of all rings in vertices, and their coordinates.
+// How many rings each piece has, the sizes of all rings in vertices, and their points.
 #[derive(Clone, Copy)]
 pub struct Pieces<'a> {
     pub rings: &'a [usize],
     pub sizes: &'a [usize],
-    pub coords: &'a [f64],
-    pub ghost laid: { Laid rings.now sizes.now coords.now } by { laid_prop rings.now sizes.now coords.now },
+    pub points: &'a [Point],
+    pub ghost laid: { Laid rings.now sizes.now points.now } by { laid_prop rings.now sizes.now points.now },
 }
 
 pub fn total(counts: &[usize]) -> usize
@@ -35,11 +36,11 @@ impl<'a> Iterator for Pieces<'a> {
     fn next(&mut self) -> Option<RegionPiece<'a>> {
         let (rings, later) = self.rings.split_first()?;
         let (sizes, others) = self.sizes.split_at(*rings);
-        let coords = self.coords;
-        let (_, rest) = coords.split_at(total(sizes) * 2);
+        let points = self.points;
+        let (_, rest) = points.split_at(total(sizes));
         self.rings = later;
         self.sizes = others;
-        self.coords = rest;
-        Some(RegionPiece { sizes, coords })
+        self.points = rest;
+        Some(RegionPiece { sizes, points })
     }
 }

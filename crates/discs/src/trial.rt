@@ -1,10 +1,9 @@
 // discs.rs: the trial of a radius, `feasible` in `auto_radius`.
-ghost use Rattle.std.specs.Prelude.{◌≡◌, ◌≤◌, true, false, length};
+ghost use Rattle.std.specs.Prelude.{◌≡◌, ◌≤◌, length};
 ghost use Rattle.discs.specs.Radius.{gap_of, boundary_gap_of, context_at};
-ghost use Rattle.discs.specs.Bundles.{zone_at, fits_in, IsPackable, SameWork};
-ghost use Rattle.discs.specs.Walk.{holding};
+ghost use Rattle.discs.specs.Bundles.{zone_at, zone_held, fits_in, IsPackable, SameWork};
 
-use crate::bundle::{Packing, Work, Zones};
+use crate::bundle::{Packing, PackingAt, Work, Zones};
 use crate::options::GlyphOptions;
 use crate::region::pack_region;
 use crate::rows::{ZoneAt, is_left_in};
@@ -38,25 +37,17 @@ pub fn context_at(options: GlyphOptions, mode: PackMode, r: f64) -> PackCtx
 }
 
 // Whether a zone holds its marks, in a trial; one that is left out does.
-fn holds(
-    packing: Packing<'_>,
-    ctx: PackCtx,
-    zones: Zones<'_>,
-    zone: ZoneAt,
-    work: &mut Work<'_>,
-) -> bool
+fn holds(how: PackingAt<'_>, zones: Zones<'_>, zone: ZoneAt, work: &mut Work<'_>) -> bool
     requires packable { IsPackable zones zone.row zone.at }
-    requires near { length packing.obstacles.now ≤ length work.old.lent.near.now }
-    requires trial { ctx.mode.spread ≡ false }
-    requires strict { ctx.mode.strict_obstacles ≡ true }
-    ensures held { result ≡ holding packing.entry.numbers packing.entry.options ctx packing.entry.obstacles.now (zone_at zones.entry zone.row zone.at) }
+    requires near { length how.packing.obstacles.now ≤ length work.old.lent.near.now }
+    ensures held { result ≡ zone_held how.entry (zone_at zones.entry zone.row zone.at) }
     ensures same { SameWork work.old work.new }
 {
     if !is_left_in(zone.row) {
         return true;
     }
     let region = region_at(zones, zone);
-    let placed = pack_region(packing, ctx, region, &mut work.lent, &mut work.spots[..]);
+    let placed = pack_region(how, region, &mut work.lent, &mut work.spots[..]);
     placed == zone.row.count
 }
 
@@ -66,9 +57,12 @@ pub fn feasible(r: f64, packing: Packing<'_>, zones: Zones<'_>, work: &mut Work<
     ensures fits { result ≡ fits_in packing.entry zones.entry packing.entry.obstacles.now r }
     ensures same { SameWork work.old work.new }
 {
-    let ctx = context_at(packing.options, PackMode::PROBE, r);
-    for zone in zones.walk() {
-        if !holds(packing, ctx, zones, zone, work) {
+    let how = PackingAt {
+        packing,
+        ctx: context_at(packing.options, PackMode::PROBE, r),
+    };
+    for zone in zones.layout.walk() {
+        if !holds(how, zones, zone, work) {
             return false;
         }
     }

@@ -5,7 +5,7 @@ ghost use Rattle.discs.specs.Slices.{pieces_left};
 ghost use Rattle.discs.specs.Bundles.{zone_at, IsPackable};
 
 use crate::bundle::{Region, Zones};
-use crate::rows::{ZoneAt, pieces_at};
+use crate::rows::ZoneAt;
 
 // The key of a zone, and its pieces with their quotas and deepest points.
 pub fn region_at<'a>(zones: Zones<'a>, zone: ZoneAt) -> Region<'a>
@@ -22,7 +22,7 @@ pub fn region_at<'a>(zones: Zones<'a>, zone: ZoneAt) -> Region<'a>
     let q = p + row.pieces;
     Region {
         key: &zones.bytes[key..end],
-        pieces: pieces_at(zones.rings, zones.sizes, zones.coords, zone),
+        pieces: zones.layout.pieces(zone),
         quotas: &zones.quotas[p..q],
         deepest: &zones.deepest[p..q],
     }

@@ -8,7 +8,7 @@ ghost use Rattle.float.specs.Order.{abs, min, max, clamp};
 pub fn abs(x: f64) -> f64
     ensures { result ≡ abs x }
 {
-    if x != x {
+    if x.is_nan() {
         x
     } else {
         f64::from_bits(f64::to_bits(x) % 0x8000_0000_0000_0000)
@@ -26,7 +26,7 @@ fn sign_bit(keep: bool) -> u64
 pub fn negate_unless(x: f64, keep: bool) -> f64
     ensures { result ≡ (if keep then x else neg x) }
 {
-    if x != x {
+    if x.is_nan() {
         x
     } else {
         let bits = f64::to_bits(x);
@@ -38,7 +38,7 @@ pub fn negate_unless(x: f64, keep: bool) -> f64
 pub fn min(a: f64, b: f64) -> f64
     ensures { result ≡ min a b }
 {
-    if a != a {
+    if a.is_nan() {
         b
     } else if b < a {
         b
@@ -51,7 +51,7 @@ pub fn min(a: f64, b: f64) -> f64
 pub fn max(a: f64, b: f64) -> f64
     ensures { result ≡ max a b }
 {
-    if a != a {
+    if a.is_nan() {
         b
     } else if a < b {
         b

@@ -6,7 +6,7 @@ ghost use Rattle.float.specs.Total.{total_key, total_less};
 pub fn total_key(x: f64) -> u64
     ensures { result ≡ total_key x }
 {
-    if x != x {
+    if x.is_nan() {
         0xfff8_0000_0000_0000
     } else {
         let bits = f64::to_bits(x);

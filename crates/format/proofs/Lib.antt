@@ -1,3 +1,4 @@
 pub mod Back
 pub mod NumberLaws
 pub mod Coordinates
+pub mod WordLaws

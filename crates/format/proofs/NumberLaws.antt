@@ -1,14 +1,10 @@
 -- Laws of numbers and items.
 -- Rests on the laws of rows.
-use Rattle.std.specs.Prelude.{ℕ, zero, suc, ◌+◌, ◌*◌, ◌≤◌, ◌≡◌, refl, List, length, get_or}
+use Rattle.std.specs.Prelude.{ℕ, zero, suc, ◌+◌, ◌≤◌, ◌≡◌, refl, List, length}
 use Rattle.std.specs.List.{between}
-use Rattle.std.proofs.Common.{arith, add-one, zero-add}
+use Rattle.std.proofs.Common.{arith, zero-add}
 use Rattle.std.proofs.lemmas.List.Edits.{length-between, get_or-between}
 use Rattle.format.specs.Numbers.{uint}
-
-pub uint_next : (n : ℕ) (s : List ℕ) (at : ℕ) → uint (n + 1) s at ≡ uint n s at * 256 + get_or s (at + n) 0
-unfolding uint
-uint_next n s at = rw add-one
 
 front : (s : List ℕ) (at end k : ℕ) → at + k ≤ end → uint k (between at end s) 0 ≡ uint k s at
 unfolding uint

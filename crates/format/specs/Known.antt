@@ -2,14 +2,15 @@
 -- Rests on the laws of runs, and on coordinates being exact.
 use Rattle.std.specs.Prelude.{ℕ, zero, suc, ◌+◌, ◌*◌, ◌≤◌, ◌≡◌, List, [], ◌∷◌, length}
 use Rattle.std.proofs.Common.{arith}
+use Rattle.glyphs.specs.declared.rect.Point.{Point}
 use Rattle.glyphs.specs.Points.{Ring, vertices}
 use Rattle.regions.specs.Ring.{Piece}
 use Rattle.format.specs.Rows.{faults, each}
-use Rattle.format.specs.Numbers.{u8, u16, u32, in_range, coord_in, coord_at, next_coord}
+use Rattle.format.specs.Numbers.{u8, u16, u32, in_range, coord_in, coord_at, next_coord, point_in, point_at, next_point}
 use Rattle.format.specs.Pieces.{ring_fault, ring_end, ring, piece_fault, piece}
 use Rattle.format.specs.RowLaws.{both, passed}
-use Rattle.format.specs.NumberLaws.{item_passed}
-use Rattle.format.specs.PieceLaws.{length_ring, length_piece}
+use Rattle.format.specs.NumberLaws.{item_passed, faults_points}
+use Rattle.format.specs.PieceLaws.{ring_vertices, length_piece}
 use Rattle.format.specs.Exact.{Coordinate, coordinate}
 
 abbrev pub All : {A : Type 0} → (A → Type 0) → List A → Type 0
@@ -37,22 +38,37 @@ pub coords_known :
     → All Coordinate (each (coord_at s) next_coord n at)
 coords_known s number n at h e = all_each Coordinate (coord_in s number) next_coord (coord_at s) (coord_known s number h) n at e
 
+-- ---- points
+
+pub record PointKnown (p : Point) : Type 0 where
+  pub x : Coordinate p.x
+  pub y : Coordinate p.y
+
+point_known : (s : List ℕ) (number : ℕ) → 1 ≤ number → (at : ℕ) → point_in s number at ≡ 0 → PointKnown (point_at s at)
+unfolding point_in point_at faults
+point_known s number h at e =
+    let p = both _ _ e in
+    record { x = coord_known s number h at p.0; y = coord_known s number h (at + 4) (both _ _ p.1).0 }
+
+pub points_known :
+    (s : List ℕ) (number n at : ℕ) → 1 ≤ number → faults (coord_in s number) next_coord (2 * n) at ≡ 0
+    → All PointKnown (each (point_at s) next_point n at)
+points_known s number n at h e =
+    all_each PointKnown (point_in s number) next_point (point_at s) (point_known s number h) n at (rw faults_points at e)
+
 -- ---- rings and pieces
 
 pub record RingKnown (r : Ring) : Type 0 where
-  pub pairs : length r ≡ vertices r * 2
   pub few : vertices r ≤ 256
-  pub coords : All Coordinate r
+  pub points : All PointKnown r
 
 pub ring_known : (s : List ℕ) (at : ℕ) → ring_fault s at ≡ 0 → RingKnown (ring s at)
 unfolding ring_fault
 ring_known s at e =
     let p = both _ _ e in
-    let l = length_ring s at in
     record {
-      pairs = omega arith;
-      few = omega (arith, (item_passed 2 s at 0 256 9 (omega arith) p.0).to);
-      coords = unfold ring in coords_known s 13 (2 * u16 s at) (at + 2) (omega arith) p.1;
+      few = omega (arith, (item_passed 2 s at 0 256 9 (omega arith) p.0).to, ring_vertices s at);
+      points = unfold ring in points_known s 13 (u16 s at) (at + 2) (omega arith) p.1;
     }
 
 pub record PieceKnown (p : Piece) : Type 0 where

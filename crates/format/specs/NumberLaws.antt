@@ -1,6 +1,7 @@
 -- Laws of numbers and items.
 -- Rests on the laws of rows.
-use Rattle.std.specs.Prelude.{ℕ, zero, suc, ◌+◌, ◌-◌, ◌*◌, ◌/◌, ◌%◌, ◌^◌, ◌<◌, ◌≤◌, min, ◌≡◌, Bool, ◌&&◌, List, [], ◌∷◌, length, get_or, take, drop, set, leb, Float}
+use Rattle.std.specs.Prelude.{ℕ, zero, suc, ◌+◌, ◌-◌, ◌*◌, ◌/◌, ◌%◌, ◌^◌, ◌<◌, ◌≤◌, min, ◌≡◌, Bool, ◌&&◌, List, [], ◌∷◌, length, get_or, take, drop, set}
+use Rattle.std.specs.Prelude.{leb, Float}
 use Rattle.std.proofs.Math.Path.{refl}
 use Rattle.std.proofs.Common.{◌∙◌, arith, add-one, length-append, length-take, length-drop, drop-cons, leb→le, pow-suc}
 use Rattle.std.proofs.Math.Bool.{true, false}
@@ -12,8 +13,9 @@ use Rattle.std.proofs.Math.Nat.{pow-le-pow_right}
 use borrow.Author.Tests.{leb-true, le-leb, lt-leb}
 use Rattle.std.proofs.Math.Facts.{and_yes}
 use Rattle.laws.specs.Truth.{yes}
-use Rattle.format.specs.Numbers.{uint, bytes, item, coord_in}
-use Rattle.format.specs.RowLaws.{passed, both, row_has, row_lacks, last_true, last_false, sets_append}
+use Rattle.format.specs.Rows.{faults, past}
+use Rattle.format.specs.Numbers.{uint, bytes, item, coord_in, next_coord, point_in, next_point}
+use Rattle.format.specs.RowLaws.{passed, both, row_has, row_lacks, last_true, last_false, sets_append, faults_by}
 
 -- one digit more
 pub digit_room : (n v b : ℕ) → n < 8 → v < 256 ^ n → b < 256 → (v * 256 + b < 256 ^ (n + 1)) × (v * 256 + b < 2 ^ 64)
@@ -66,6 +68,22 @@ pub coord_inside : (s : List ℕ) (number at : ℕ) → coord_in s number at ≡
 unfolding coord_in
 coord_inside s number at e = leb-true (at + 4) (length s) (passed 6 _ (omega arith) (both _ _ e).0)
 
+pub coords_inside : (s : List ℕ) (number n at : ℕ) → at ≤ length s → faults (coord_in s number) next_coord n at ≡ 0 → at + 4 * n ≤ length s
+unfolding faults
+coords_inside s number zero at h e = omega arith
+coords_inside s number (suc n) at h e =
+    let p = both (coord_in s number at) (faults (coord_in s number) next_coord n (at + 4)) e in
+    omega (arith, coords_inside s number n (at + 4) (coord_inside s number at p.0) p.1)
+
+pub point_inside : (s : List ℕ) (number at : ℕ) → point_in s number at ≡ 0 → at + 8 ≤ length s
+unfolding point_in faults
+point_inside s number at e = omega (arith, coord_inside s number (at + 4) (both _ _ (both _ _ e).1).0)
+
+-- the faults of points are those of their coordinates, in order
+pub faults_points : (s : List ℕ) (number n at : ℕ) → faults (coord_in s number) next_coord (2 * n) at ≡ faults (point_in s number) next_point n at
+unfolding point_in
+faults_points s number = faults_by (coord_in s number) next_coord next_point 2 (λ at. unfold past in omega arith)
+
 -- ---- bytes written, the last first
 
 set_behind : {A : Type 0} (l : List A) (k : ℕ) (xs : List A) (j : ℕ) (b : A) → k + length xs ≤ j → set (sets l k xs) j b ≡ sets (set l j b) k xs
@@ -105,17 +123,17 @@ nan_bits nan h = refl
 nan_bits (inf s) h = let z : false ≡ true = h in cc
 nan_bits (fin s m e) h = let z : false ≡ true = h in cc
 
--- ---- room for the coordinates that the bytes can hold
+-- ---- room for the points that the bytes can hold
 
-pub room_first : (k at from len room n : ℕ) → 4 * k ≤ at → at ≤ from → from ≤ len → len ≤ 4 * room → k + min n ((len - from) / 4) ≤ room
+pub room_first : (k at from len room n : ℕ) → 8 * k ≤ at → at ≤ from → from ≤ len → len ≤ 8 * room → k + min n ((len - from) / 8) ≤ room
 room_first k at from len room n b h i e = omega arith
 
 pub room_turn :
-    (k left at len room : ℕ) → 0 < left → at + 4 ≤ len → k + min left ((len - at) / 4) ≤ room
-    → (k < room) × (k + 1 + min (left - 1) ((len - (at + 4)) / 4) ≤ room)
+    (k left at len room : ℕ) → 0 < left → at + 8 ≤ len → k + min left ((len - at) / 8) ≤ room
+    → (k < room) × (k + 1 + min (left - 1) ((len - (at + 8)) / 8) ≤ room)
 room_turn k left at len room m h r =
-    let e : (len - at) / 4 ≡ suc ((len - (at + 4)) / 4) = omega arith in
-    let q : k + min left (suc ((len - (at + 4)) / 4)) ≤ room = rw e at r in
+    let e : (len - at) / 8 ≡ suc ((len - (at + 8)) / 8) = omega arith in
+    let q : k + min left (suc ((len - (at + 8)) / 8)) ≤ room = rw e at r in
     (omega arith, omega arith)
 
 -- ---- some bytes: how many, and the first and those after it

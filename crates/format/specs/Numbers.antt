@@ -5,7 +5,8 @@ use Rattle.std.specs.Float.{binary64}
 use Rattle.std.specs.Float.Ieee.{neg, to_bits, of_bits}
 use Rattle.float.specs.Ops.{◌/ᶠ◌, literal}
 use Rattle.float.specs.Whole.{as_f64}
-use Rattle.format.specs.Rows.{◌unless◌, ◌or_else◌}
+use Rattle.glyphs.specs.declared.rect.Point.{Point}
+use Rattle.format.specs.Rows.{◌unless◌, ◌or_else◌, faults}
 
 -- ---- read
 
@@ -85,3 +86,14 @@ coord_at s at = coord_of (u32 s at)
 
 abbrev pub next_coord : ℕ → ℕ
 next_coord at = at + 4
+
+-- ---- points: two coordinates, x and y; the first fault of the two wins
+
+unfoldable pub point_in : List ℕ → ℕ → ℕ → ℕ
+point_in s number at = faults (coord_in s number) next_coord 2 at
+
+unfoldable pub point_at : List ℕ → ℕ → Point
+point_at s at = record { x = coord_at s at; y = coord_at s (at + 4) }
+
+abbrev pub next_point : ℕ → ℕ
+next_point at = at + 8

@@ -5,23 +5,35 @@ use Rattle.std.proofs.Common.{sym, arith, length-append}
 use mathlib.Core.List.{List, map, flatten}
 use Rattle.glyphs.specs.Points.{vertices}
 use Rattle.format.specs.Rows.{faults, flat}
-use Rattle.format.specs.Numbers.{u8, u16, coord_at, next_coord}
-use Rattle.format.specs.Pieces.{ring, ring_end, piece, piece_fault, piece_end, piece_coords, ring_sizes}
-use Rattle.format.specs.RowLaws.{both, length_each, each_map, flat_flatten}
-use Rattle.format.specs.NumberLaws.{item_passed}
+use Rattle.format.specs.Numbers.{u8, u16, point_at, next_point}
+use Rattle.format.specs.Pieces.{ring, ring_fault, ring_end, piece, piece_fault, piece_end, piece_points, ring_sizes}
+use Rattle.format.specs.RowLaws.{both, past_within, length_each, each_map, flat_flatten}
+use Rattle.format.specs.NumberLaws.{item_passed, coords_inside}
+
+-- ---- what has no fault is whole
+
+pub ring_inside : (s : List ℕ) (at : ℕ) → ring_fault s at ≡ 0 → ring_end s at ≤ length s
+unfolding ring_fault ring_end
+ring_inside s at e =
+    let p = both _ _ e in
+    omega (arith, coords_inside s 13 (2 * u16 s at) (at + 2) (item_passed 2 s at 0 256 9 (omega arith) p.0).inside p.1)
+
+pub piece_inside : (s : List ℕ) (at : ℕ) → piece_fault s at ≡ 0 → piece_end s at ≤ length s
+unfolding piece_fault piece_end
+piece_inside s at e =
+    let p = both _ _ e in
+    let first = (item_passed 1 s at 1 9 9 (omega arith) p.0).inside in
+    past_within (ring_fault s) (ring_end s) (length s) (ring_inside s) (u8 s at) (at + 1) first p.1
 
 -- ---- what stands in the flat slices
 
-pub length_ring : (s : List ℕ) (at : ℕ) → length (ring s at) ≡ 2 * u16 s at
-unfolding ring
-length_ring s at = length_each next_coord (coord_at s) (2 * u16 s at) (at + 2)
-
 pub ring_vertices : (s : List ℕ) (at : ℕ) → u16 s at ≡ vertices (ring s at)
-ring_vertices s at = omega (arith, length_ring s at)
+unfolding ring
+ring_vertices s at = sym (length_each next_point (point_at s) (u16 s at) (at + 2))
 
-pub coords_flat : (s : List ℕ) (at : ℕ) → piece_coords s at ≡ flatten (piece s at)
-unfolding piece_coords piece
-coords_flat s at = flat_flatten (ring_end s) (ring s) (u8 s at) (at + 1)
+pub points_flat : (s : List ℕ) (at : ℕ) → piece_points s at ≡ flatten (piece s at)
+unfolding piece_points piece
+points_flat s at = flat_flatten (ring_end s) (ring s) (u8 s at) (at + 1)
 
 pub sizes_map : (s : List ℕ) (at : ℕ) → ring_sizes s at ≡ map vertices (piece s at)
 unfolding ring_sizes piece

@@ -7,7 +7,8 @@ use Rattle.std.proofs.Common.{◌∙◌}
 use Rattle.std.proofs.lemmas.Result.{err_from_is_err_and}
 use native.Mathlib.Omega.{arith}
 use Rattle.format.specs.declared.refusal.Refusal.{Refusal}
-use Rattle.format.specs.declared.refusal.Refusal.TheVariants.{JobLength, WorkLength, Version, HeadValue, NumberAfterKind, JobEnds, BytesLeftOver, Obstacle, Count, KeyByte, KeyOrder, MarkTotal, Vertex, SheetLength, SearchRoom, Ceiling}
+use Rattle.format.specs.declared.refusal.Refusal.TheVariants.{JobLength, WorkLength, Version, HeadValue, NumberAfterKind, JobEnds, BytesLeftOver}
+use Rattle.format.specs.declared.refusal.Refusal.TheVariants.{Obstacle, Count, KeyByte, KeyOrder, MarkTotal, Vertex, SheetLength, SearchRoom, Ceiling}
 use Rattle.format.specs.Refusals.{number_of, fault_of}
 use Rattle.format.specs.Rows.{◌or_else◌, faults}
 use Rattle.format.specs.RowLaws.{faults_stop}

@@ -1,7 +1,8 @@
 -- The published number of each refusal, and of what a function answers that may refuse. Definitions only.
 use Rattle.std.specs.Prelude.{ℕ, Result, Ok, Err}
 use Rattle.format.specs.declared.refusal.Refusal.{Refusal}
-use Rattle.format.specs.declared.refusal.Refusal.TheVariants.{JobLength, WorkLength, Version, HeadValue, NumberAfterKind, JobEnds, BytesLeftOver, Obstacle, Count, KeyByte, KeyOrder, MarkTotal, Vertex, SheetLength, SearchRoom, Ceiling}
+use Rattle.format.specs.declared.refusal.Refusal.TheVariants.{JobLength, WorkLength, Version, HeadValue, NumberAfterKind, JobEnds, BytesLeftOver}
+use Rattle.format.specs.declared.refusal.Refusal.TheVariants.{Obstacle, Count, KeyByte, KeyOrder, MarkTotal, Vertex, SheetLength, SearchRoom, Ceiling}
 
 abbrev pub number_of : Refusal → ℕ
 number_of JobLength = 1

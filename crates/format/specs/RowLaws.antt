@@ -1,13 +1,14 @@
 -- Laws of faults and of runs, for every level: one turn of a loop, what passes, and which row answers (`search rows`).
 -- Rests on the kit's laws of lists and tests.
-use Prim.Native.Nat.{ℕ, zero, suc, ◌+◌, ◌-◌, ◌<◌, ◌≤◌}
-use Rattle.std.specs.Prelude.{◌≡◌, Bool, true, false, length, get_or, drop, set, leb, eqb}
+use Prim.Native.Nat.{ℕ, zero, suc, ◌+◌, ◌-◌, ◌*◌, ◌<◌, ◌≤◌}
+use Rattle.std.specs.Prelude.{◌≡◌, Bool, true, false, length, get_or, take, drop, set, leb, eqb}
 use Rattle.std.proofs.Math.Path.{refl, sym}
 use Rattle.std.proofs.Common.{◌∙◌, zero-add, add-one, drop-drop, rules, le-leb, eq-eqb, ne_eqb, length-append}
 use mathlib.Core.List.{List, [], ◌∷◌, ◌++◌, append_assoc, append-nil, map, flatten, flat_map}
 use native.Mathlib.Omega.{arith}
 use Rattle.std.proofs.lemmas.List.Edits.{sets, sets-eq}
 use Rattle.std.proofs.Math.Seq.{drop-append_seam}
+use borrow.Rule.Slice.PartMut.{put_mid}
 use Rattle.std.proofs.lemmas.Bool.{lt-leb}
 use Rattle.laws.specs.Lists.{written}
 use Rattle.format.specs.Rows.{◌unless◌, ◌or_else◌, faults, past, each, flat}
@@ -38,6 +39,12 @@ sets_append l k (x ∷ xs) ys =
 pub sets_written : {A : Type 0} (xs l : List A) → length xs ≤ length l → sets l 0 xs ≡ written xs l
 unfolding written
 sets_written xs l h = sets-eq xs l 0 (omega arith) ∙ rw zero-add
+
+-- a part that is written as a whole
+pub copied : {A : Type 0} (l xs : List A) (at end : ℕ) → at + length xs ≡ end → end ≤ length l → put_mid at (end - at) l xs ≡ sets l at xs
+copied l xs at end e h =
+    let k : end - at ≡ length xs = omega arith in
+    rw (k, drop-drop (length xs) at l) (sym (sets-eq xs l at (omega arith) ∙ append_assoc (take at l) xs (drop (at + length xs) l)))
 
 -- ---- runs that stand in some bytes
 
@@ -224,6 +231,28 @@ faults_more fault next zero n at = rw zero-add
 faults_more fault next (suc m) n at =
     let e : suc m + n ≡ suc (m + n) = omega arith in
     rw (e, faults_more fault next m n (next at)) (sym (or_else_assoc (fault at) _ _))
+
+-- things without fault that each end in a part: so does a run of them
+pub past_within :
+    (fault next : ℕ → ℕ) (end : ℕ) → ((at : ℕ) → fault at ≡ 0 → next at ≤ end) → (n at : ℕ)
+    → at ≤ end → faults fault next n at ≡ 0 → past next n at ≤ end
+unfolding faults past
+past_within fault next end h zero at m e = m
+past_within fault next end h (suc n) at m e =
+    let p = both (fault at) (faults fault next n (next at)) e in
+    past_within fault next end h n (next at) (h at p.0) p.1
+
+-- k at a time
+pub faults_by :
+    {S : Type 0} (fault : S → ℕ) (next skip : S → S) (k : ℕ) → ((z : S) → past next k z ≡ skip z) → (n : ℕ) (at : S)
+    → faults fault next (k * n) at ≡ faults (faults fault next k) skip n at
+unfolding faults
+faults_by fault next skip k h zero at =
+    let e : k * 0 ≡ 0 = omega arith in
+    rw e refl
+faults_by fault next skip k h (suc n) at =
+    let e : k * suc n ≡ k + k * n = omega arith in
+    rw (e, faults_more fault next k (k * n) at, h at, faults_by fault next skip k h n (skip at))
 
 -- ---- one of them
 

@@ -2,16 +2,14 @@
 ghost use Rattle.std.specs.Prelude.{◌≡◌, ◌^◌, ◌<◌, ◌≤◌, length};
 ghost use Rattle.format.specs.Numbers.{uint, share};
 
-// The number that the bytes stand for: at most eight, for which the library has no one conversion.
+// The number that the bytes stand for: at most eight, which end a word.
 pub fn uint(bytes: &[u8]) -> u64
     requires { length bytes.now ≤ 8 }
     ensures { (result ≡ uint (length bytes.now) bytes.now 0) × (result < 256 ^ length bytes.now) }
 {
-    let mut number = 0;
-    for byte in bytes {
-        number = number * 256 + *byte as u64;
-    }
-    number
+    let mut word = [0; 8];
+    word[8 - bytes.len()..].copy_from_slice(bytes);
+    u64::from_be_bytes(word)
 }
 
 // A number of 1/1024.

@@ -1,23 +1,21 @@
 // The bytes of a job, read one item after the other. An item is whole before its value is judged.
-ghost use Rattle.std.specs.Prelude.{◌≤◌, length};
-
 use crate::numbers::{share, uint};
 use crate::refusal::Refusal;
 use arrayvec::ArrayVec;
+use glyphs::rect::Point;
 
 // The job, and where its next item stands.
 #[derive(Drop)]
 pub struct Reader<'a> {
     pub bytes: &'a [u8],
     pub at: usize,
-    pub ghost inside: { at ≤ length bytes.now },
 }
 
 impl<'a> Reader<'a> {
-    ghost use Rattle.std.specs.Prelude.{◌≡◌, ◌+◌, ◌-◌, ◌*◌, ◌/◌, ◌^◌, ◌<◌, ◌++◌, min, IfOk, OnOk};
+    ghost use Rattle.std.specs.Prelude.{◌≡◌, ◌+◌, ◌-◌, ◌*◌, ◌/◌, ◌^◌, ◌<◌, ◌≤◌, ◌++◌, length, min, IfOk, OnOk};
     ghost use Rattle.format.specs.Refusals.{number_of, fault_of};
     ghost use Rattle.format.specs.Rows.{◌unless◌, faults, each};
-    ghost use Rattle.format.specs.Numbers.{uint, item, share, whole, coord_in, coord_at, next_coord};
+    ghost use Rattle.format.specs.Numbers.{uint, item, share, whole, coord_in, coord_at, next_coord, point_in, point_at, next_point};
 
     // The next number of `n` bytes.
     pub fn number(&mut self, n: usize) -> Result<u64, Refusal>
@@ -27,13 +25,10 @@ impl<'a> Reader<'a> {
         ensures next { OnOk result (self.new.at ≡ self.old.at + n) }
         ensures bytes { self.new.bytes ≡ self.old.bytes }
     {
-        let end = self.at + n;
-        if self.bytes.len() < end {
-            return Err(Refusal::JobEnds);
-        }
-        let number = uint(&self.bytes[self.at..end]);
+        let end = self.at.checked_add(n).ok_or(Refusal::JobEnds)?;
+        let bytes = self.bytes.get(self.at..end).ok_or(Refusal::JobEnds)?;
         self.at = end;
-        Ok(number)
+        Ok(uint(bytes))
     }
 
     // The next number of `n` bytes, which is to lie in `least`..=`most`.
@@ -82,21 +77,34 @@ impl<'a> Reader<'a> {
         Ok(number as f64 / 1024.0)
     }
 
-    // The next `n` coordinates, put behind those of `out`, which has room for all that the job can hold.
-    pub fn coords<const N: usize>(
+    // The next point: its x, then its y.
+    pub fn point(&mut self, refusal: Refusal) -> Result<Point, Refusal>
+        ensures fault { fault_of result ≡ point_in self.old.bytes.now (number_of refusal) self.old.at }
+        ensures value { IfOk result (λ point. point ≡ point_at self.old.bytes.now self.old.at) }
+        ensures next { OnOk result (self.new.at ≡ next_point self.old.at) }
+        ensures bytes { self.new.bytes ≡ self.old.bytes }
+    {
+        Ok(Point {
+            x: self.coord(refusal)?,
+            y: self.coord(refusal)?,
+        })
+    }
+
+    // The next `n` points, put behind those of `out`, which has room for all that the job can hold.
+    pub fn points<const N: usize>(
         &mut self,
         n: usize,
         refusal: Refusal,
-        out: &mut ArrayVec<f64, N>,
+        out: &mut ArrayVec<Point, N>,
     ) -> Result<(), Refusal>
-        requires { length out.old.items + min n ((length self.old.bytes.now - self.old.at) / 4) ≤ N }
-        ensures fault { fault_of result ≡ faults (coord_in self.old.bytes.now (number_of refusal)) next_coord n self.old.at }
-        ensures values { OnOk result (out.new.items ≡ out.old.items ++ each (coord_at self.old.bytes.now) next_coord n self.old.at) }
-        ensures next { OnOk result (self.new.at ≡ self.old.at + 4 * n) }
+        requires { length out.old.items + min n ((length self.old.bytes.now - self.old.at) / 8) ≤ N }
+        ensures fault { fault_of result ≡ faults (coord_in self.old.bytes.now (number_of refusal)) next_coord (2 * n) self.old.at }
+        ensures values { OnOk result (out.new.items ≡ out.old.items ++ each (point_at self.old.bytes.now) next_point n self.old.at) }
+        ensures next { OnOk result (self.new.at ≡ self.old.at + 8 * n) }
         ensures bytes { self.new.bytes ≡ self.old.bytes }
     {
         for _i in 0..n {
-            out.push(self.coord(refusal)?);
+            out.push(self.point(refusal)?);
         }
         Ok(())
     }

@@ -3,7 +3,7 @@ ghost use Rattle.std.specs.Prelude.{◌≡◌, ◌+◌, ◌<◌, ◌≤◌, leng
 ghost use Rattle.std.proofs.lemmas.List.Edits.{sets};
 ghost use Rattle.format.specs.Numbers.{bytes, float_bytes};
 
-// Puts the `n` low bytes of `v` into `out` at `at`: at most eight, for which the library has no one conversion.
+// Puts the `n` low bytes of `v` into `out` at `at`. There may be any number of them, and a word has but eight.
 pub fn put_uint(out: &mut [u8], at: usize, n: usize, v: u64)
     requires { at + n ≤ length out.old }
     ensures { out.new ≡ sets out.old at (bytes n v) }
@@ -25,5 +25,5 @@ pub fn put_float(out: &mut [u8], at: usize, x: f64)
     } else {
         x.to_bits()
     };
-    put_uint(out, at, 8, bits);
+    out[at..at + 8].copy_from_slice(&bits.to_be_bytes());
 }

@@ -29,12 +29,14 @@ fuel_enough (suc f) (suc g) base (suc n) value weight h k l =
 
 pub turn :
     (base index : ℕ) (value weight : Float) → 2 ≤ base → 0 < index
-    → digits index base index value weight ≡ digits (index / base) base (index / base) (value +ᶠ as_f64 (index % base) *ᶠ weight) (weight /ᶠ as_f64 base)
+    → digits index base index value weight
+    ≡ digits (index / base) base (index / base) (value +ᶠ as_f64 (index % base) *ᶠ weight) (weight /ᶠ as_f64 base)
 unfolding digits
 turn base zero value weight h k = absurd (omega arith)
 turn base (suc n) value weight h k =
     rw (ne_eqb (suc n) 0 (λ (e : suc n ≡ 0). omega arith))
-    (fuel_enough n (suc n / base) base (suc n / base) (value +ᶠ as_f64 (suc n % base) *ᶠ weight) (weight /ᶠ as_f64 base) h (smaller n base h) (omega arith))
+    (fuel_enough n (suc n / base) base (suc n / base) (value +ᶠ as_f64 (suc n % base) *ᶠ weight)
+    (weight /ᶠ as_f64 base) h (smaller n base h) (omega arith))
 
 pub done : (base index : ℕ) (value weight : Float) → index ≤ 0 → digits index base index value weight ≡ value
 unfolding digits

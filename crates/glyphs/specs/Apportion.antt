@@ -1,5 +1,6 @@
 -- glyphs.rs, `apportion`: a count over weights by largest remainder. Definitions only.
-use Rattle.std.specs.Prelude.{ℕ, ◌+◌, ◌-◌, Bool, cond, ◌||◌, List, [], ◌∷◌, map, length, take, replicate, ◌==◌, slice_index, slice_index_or, slice_set, Float}
+use Rattle.std.specs.Prelude.{ℕ, ◌+◌, ◌-◌, Bool, cond, ◌||◌, List, [], ◌∷◌, map, length, take}
+use Rattle.std.specs.Prelude.{replicate, ◌==◌, slice_index, slice_index_or, slice_set, Float}
 use mathlib.Core.List.{foldl}
 use Prim.Native.Nat.{compare, Ordering}
 use Rattle.std.specs.Float.{nan}

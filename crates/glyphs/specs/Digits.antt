@@ -1,7 +1,9 @@
 -- The weights of the digits in a base, kept for many indices.
 -- Rests on a quotient's being at most half of what is divided.
-use Rattle.std.specs.Prelude.{◌≡◌, ℕ, zero, suc, ◌+◌, ◌-◌, ◌*◌, ◌/◌, ◌^◌, ◌<◌, ◌≤◌, List, length, slice_index_or, slice_set, refl, Float}
-use Rattle.std.proofs.Common.{ap, subst, ◌∙◌, inl, inr, arith, div-lt_iff_lt-mul, mul-le-mul_left, pow-suc, eq-or-lt_of_le, get_or-set_same, get_or-set_other}
+use Rattle.std.specs.Prelude.{◌≡◌, ℕ, zero, suc, ◌+◌, ◌-◌, ◌*◌, ◌/◌, ◌^◌, ◌<◌}
+use Rattle.std.specs.Prelude.{◌≤◌, List, length, slice_index_or, slice_set, refl, Float}
+use Rattle.std.proofs.Common.{ap, subst, ◌∙◌, inl, inr, arith, div-lt_iff_lt-mul, mul-le-mul_left}
+use Rattle.std.proofs.Common.{pow-suc, eq-or-lt_of_le, get_or-set_same, get_or-set_other}
 use Rattle.std.specs.Float.{nan}
 use Rattle.float.specs.Ops.{◌/ᶠ◌, 1ᶠ}
 use Rattle.float.specs.Whole.{as_f64}

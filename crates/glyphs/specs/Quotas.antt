@@ -1,7 +1,9 @@
 -- The quota of one piece: its floor, and one more where fewer than are left over come before it. All of them together are `apportion`.
 -- Rests on the laws of a sorted list.
-use Rattle.std.specs.Prelude.{◌≡◌, ℕ, zero, suc, ◌+◌, ◌-◌, ◌<◌, ◌≤◌, min, Bool, true, false, cond, List, [], ◌∷◌, ◌++◌, map, length, take, replicate, ◌==◌, nat_lt, slice_index, slice_index_or, slice_set, refl, Float}
-use Rattle.std.proofs.Common.{sym, ap, ◌∙◌, ⊎_elim, arith, eq-or-lt_of_le, add-one, length-set, get_or-set_same, get_or-set_other, ext_get_or, eq-eqb, ne_eqb, lt-ltb, le-ltb}
+use Rattle.std.specs.Prelude.{◌≡◌, ℕ, zero, suc, ◌+◌, ◌-◌, ◌<◌, ◌≤◌, min, Bool, true, false, cond, List, [], ◌∷◌}
+use Rattle.std.specs.Prelude.{◌++◌, map, length, take, replicate, ◌==◌, nat_lt, slice_index, slice_index_or, slice_set, refl, Float}
+use Rattle.std.proofs.Common.{sym, ap, ◌∙◌, ⊎_elim, arith, eq-or-lt_of_le, add-one, length-set}
+use Rattle.std.proofs.Common.{get_or-set_same, get_or-set_other, ext_get_or, eq-eqb, ne_eqb, lt-ltb, le-ltb}
 use mathlib.Core.List.{foldl}
 use Prim.Native.Nat.{compare, Ordering}
 use Rattle.std.proofs.Math.Dec.{compare_is_eq}
@@ -23,7 +25,9 @@ unfolding hand_out
 length_hand_out l [] = refl
 length_hand_out l (i ∷ is) = length_hand_out (slice_set l i (slice_index l i + 1)) is ∙ length-set l i (slice_index l i + 1)
 
-one_more : (l : List ℕ) (i j : ℕ) (o : Ordering) → compare j i ≡ o → i < length l → slice_index (slice_set l j (slice_index l j + 1)) i ≡ slice_index l i + at i j
+one_more :
+    (l : List ℕ) (i j : ℕ) (o : Ordering) → compare j i ≡ o → i < length l
+    → slice_index (slice_set l j (slice_index l j + 1)) i ≡ slice_index l i + at i j
 one_more l i j Ordering.lt e h = rw e (get_or-set_other l j i (slice_index l j + 1) 0 (λ (k : i ≡ j). omega (arith, told j i Ordering.lt e)) ∙ omega arith)
 one_more l i j Ordering.eq e h =
     let k : j ≡ i = told j i Ordering.eq e in
@@ -56,7 +60,8 @@ level_at : (rems : List Float) (i j : ℕ) → if_eq (by_remainder rems j i) ≡
 unfolding by_remainder total_cmp
 level_at rems i j =
     level_then (compare (total_key (slice_index_or rems i nan)) (total_key (slice_index_or rems j nan))) (compare j i)
-    (λ (e : compare j i ≡ Ordering.eq). rw (told j i Ordering.eq e) (compared (total_key (slice_index_or rems i nan)) (total_key (slice_index_or rems i nan)) Ordering.eq refl))
+    (λ (e : compare j i ≡ Ordering.eq). rw (told j i Ordering.eq e)
+    (compared (total_key (slice_index_or rems i nan)) (total_key (slice_index_or rems i nan)) Ordering.eq refl))
 
 weigh_same : (p q : ℕ → ℕ) (is : List ℕ) → ((j : ℕ) → p j ≡ q j) → weigh p is ≡ weigh q is
 unfolding weigh
@@ -69,7 +74,8 @@ weigh_append p [] js = omega arith
 weigh_append p (i ∷ is) js = omega (arith, weigh_append p is js)
 
 -- how many of the first k indices come before i: the next
-pub rank_next : (rems : List Float) (i k : ℕ) → rank (by_remainder rems) i (up_to (k + 1)) ≡ rank (by_remainder rems) i (up_to k) + if_lt (by_remainder rems k i)
+pub rank_next :
+    (rems : List Float) (i k : ℕ) → rank (by_remainder rems) i (up_to (k + 1)) ≡ rank (by_remainder rems) i (up_to k) + if_lt (by_remainder rems k i)
 unfolding up_to weigh
 rank_next rems i k = rw add-one (weigh_append (λ (j : ℕ). if_lt (by_remainder rems j i)) (up_to k) (k ∷ []) ∙ omega arith)
 
@@ -93,7 +99,9 @@ last_one : (n r : ℕ) → min (n - r) 1 ≡ cond (nat_lt r n) 1 0
 last_one n r = ⊎_elim (λ (h : r < n). rw (lt-ltb r n h) (omega arith)) (λ (h : n ≤ r). rw (le-ltb r n h) (omega arith)) (lt_or_le r n)
 
 -- ---- the quotas
-extra : (n i : ℕ) (rems : List Float) → i < length rems → weigh (at i) (take n (order rems)) ≡ cond (nat_lt (rank (by_remainder rems) i (up_to (length rems))) n) 1 0
+extra :
+    (n i : ℕ) (rems : List Float) → i < length rems
+    → weigh (at i) (take n (order rems)) ≡ cond (nat_lt (rank (by_remainder rems) i (up_to (length rems))) n) 1 0
 unfolding order
 extra n i rems h =
     let cmp = by_remainder rems in
@@ -101,13 +109,16 @@ extra n i rems h =
     let same : (is : List ℕ) → levels cmp i is ≡ weigh (at i) is = λ is. weigh_same (λ (j : ℕ). if_eq (cmp j i)) (at i) is (level_at rems i) in
     sym (same (take n (sort_by cmp all)))
     ∙ in_first cmp (linear_by_remainder rems) n i (sort_by cmp all) (sort_ascending cmp (linear_by_remainder rems) all)
-    ∙ rw (weigh_sort cmp (λ (j : ℕ). if_lt (cmp j i)) all, weigh_sort cmp (λ (j : ℕ). if_eq (cmp j i)) all, same all, once i (length rems) h) (last_one n (rank cmp i all))
+    ∙ rw (weigh_sort cmp (λ (j : ℕ). if_lt (cmp j i)) all, weigh_sort cmp (λ (j : ℕ). if_eq (cmp j i)) all, same all, once i (length rems) h)
+    (last_one n (rank cmp i all))
 
 -- the quota of piece i, of `left` that are left over
 unfoldable pub quota_at : List ℕ → List Float → ℕ → ℕ → ℕ
 quota_at floors rems left i = slice_index floors i + cond (nat_lt (rank (by_remainder rems) i (up_to (length rems))) left) 1 0
 
-handed_out : (floors : List ℕ) (rems : List Float) (left : ℕ) → length floors ≡ length rems → hand_out floors (take left (order rems)) ≡ tabulate (quota_at floors rems left) (length rems)
+handed_out :
+    (floors : List ℕ) (rems : List Float) (left : ℕ) → length floors ≡ length rems
+    → hand_out floors (take left (order rems)) ≡ tabulate (quota_at floors rems left) (length rems)
 unfolding quota_at
 handed_out floors rems left e =
     let is = take left (order rems) in
@@ -122,7 +133,8 @@ first_only n i = cond (i == 0) n 0
 
 all_to_first : (n k : ℕ) → slice_set (replicate k 0) 0 n ≡ tabulate (first_only n) k
 all_to_first n k =
-    ext_get_or 0 (slice_set (replicate k 0) 0 n) (tabulate (first_only n) k) (length-set (replicate k 0) 0 n ∙ length-replicate {A = ℕ} k 0 ∙ sym (length_tabulate (first_only n) k))
+    ext_get_or 0 (slice_set (replicate k 0) 0 n) (tabulate (first_only n) k)
+    (length-set (replicate k 0) 0 n ∙ length-replicate {A = ℕ} k 0 ∙ sym (length_tabulate (first_only n) k))
     (λ i h. let l : i < k = rw (length-set (replicate k 0) 0 n, length-replicate {A = ℕ} k 0) at h in
     entry i k l ∙ sym (tabulate_at (first_only n) k i 0 l))
   where
@@ -156,7 +168,9 @@ add_from : (a : ℕ) (l : List ℕ) → foldl ◌+◌ a l ≡ a + foldl ◌+◌ 
 add_from a [] = omega arith
 add_from a (x ∷ xs) = omega (arith, add_from (a + x) xs, add_from (0 + x) xs)
 
-spent_from : (n : ℕ) (sum : Float) (left : ℕ) (weights : List Float) → foldl (spend n sum) left weights ≡ left - foldl ◌+◌ 0 (map (whole_share n sum) weights)
+spent_from :
+    (n : ℕ) (sum : Float) (left : ℕ) (weights : List Float)
+    → foldl (spend n sum) left weights ≡ left - foldl ◌+◌ 0 (map (whole_share n sum) weights)
 spent_from n sum left [] = omega arith
 spent_from n sum left (w ∷ ws) =
     omega (arith, spent_from n sum (left - whole_share n sum w) ws, add_from (0 + whole_share n sum w) (map (whole_share n sum) ws))
@@ -188,11 +202,14 @@ by_keys n sum weights i j d h k = rw (get_d_map (remainder n sum) weights i d na
 -- the quota where there is weight: the floor, and one by the rank
 pub by_rank :
     (n : ℕ) (sum : Float) (left : ℕ) (weights : List Float) (i : ℕ) → no_weight sum ≡ false → i < length weights
-    → quota_of n sum left weights i ≡ whole_share n sum (slice_index_or weights i nan) + cond (nat_lt (rank (by_remainder (rems n sum weights)) i (up_to (length weights))) left) 1 0
+    → quota_of n sum left weights i
+    ≡ whole_share n sum (slice_index_or weights i nan) + cond (nat_lt (rank (by_remainder (rems n sum weights)) i (up_to (length weights))) left) 1 0
 unfolding quota_of quota_at base
 by_rank n sum left weights i e h = rw (e, get_d_map (whole_share n sum) weights i nan 0 h, length_rems n sum weights)
 
-by_weight : {A : Type 0} (b : Bool) (f g : ℕ → A) (k : ℕ) (l m : List A) → l ≡ tabulate f k → m ≡ tabulate g k → cond b l m ≡ tabulate (λ (i : ℕ). cond b (f i) (g i)) k
+by_weight :
+    {A : Type 0} (b : Bool) (f g : ℕ → A) (k : ℕ) (l m : List A) → l ≡ tabulate f k → m ≡ tabulate g k
+    → cond b l m ≡ tabulate (λ (i : ℕ). cond b (f i) (g i)) k
 by_weight true f g k l m p q = p
 by_weight false f g k l m p q = q
 
@@ -211,4 +228,5 @@ apportioned n (w ∷ ws) =
     (by_weight (no_weight sum) (first_only n) (quota_at floors parts left) (length weights) (slice_set (replicate (length weights) 0) 0 n)
     (hand_out floors (take left (order parts)))
     (all_to_first n (length weights))
-    (handed_out floors parts left (length_base n sum weights ∙ sym (length_rems n sum weights)) ∙ ap (tabulate (quota_at floors parts left)) (length_rems n sum weights)))
+    (handed_out floors parts left (length_base n sum weights ∙ sym (length_rems n sum weights))
+    ∙ ap (tabulate (quota_at floors parts left)) (length_rems n sum weights)))

@@ -1,11 +1,13 @@
 -- glyphs.rs: `dist_to_rect`, `clear_of_obstacles`, `sanitize_obstacles` and `obstacles_near`.
 -- Obstacles also lie in a list of floats, four each: centre x, centre y, width, height.
-use Rattle.std.specs.Prelude.{◌≡◌, ℕ, zero, suc, ◌+◌, ◌-◌, ◌*◌, ◌/◌, ◌<◌, ◌≤◌, Bool, true, false, cond, ◌&&◌, List, [], ◌∷◌, ◌++◌, length, slice_index_or, get_or, drop, refl, Option, Some, None, Float}
+use Rattle.std.specs.Prelude.{◌≡◌, ℕ, zero, suc, ◌+◌, ◌-◌, ◌*◌, ◌/◌, ◌<◌, ◌≤◌}
+use Rattle.std.specs.Prelude.{Bool, true, false, cond, ◌&&◌, refl, Option, Some, None, Float}
+use Rattle.std.specs.Prelude.{List, [], ◌∷◌, ◌++◌, length, slice_index_or, get_or, drop}
 use Rattle.std.proofs.Common.{append_assoc, append-nil, arith}
 use Rattle.std.proofs.lemmas.List.{drop_more}
 use Rattle.std.proofs.Math.ListN.{drop_of_length-le}
 use Rattle.std.specs.Float.Ieee
-use Rattle.std.specs.Float.{nan}
+use Rattle.std.specs.Float.{nan, inf, fin, float_is_finite}
 use Rattle.float.specs.Ops.{◌+ᶠ◌, ◌-ᶠ◌, ◌*ᶠ◌, ◌/ᶠ◌, ◌<ᶠ◌, ◌>ᶠ◌, ◌≤ᶠ◌, ◌≥ᶠ◌, 0ᶠ, 1ᶠ, ½ᶠ, ∞}
 use Rattle.float.specs.Order.{abs, max, hypot}
 use Rattle.glyphs.specs.Bounds.{Extents}
@@ -73,16 +75,17 @@ obstacles_near (Some bounds) obstacles clearance = filter (λ rect. near rect cl
 
 -- ---- laws
 
+-- one more obstacle, or not, behind those before it
+pub joined : (b : Bool) (rect : Rectangle) (xs ys : List Rectangle) → xs ++ cond b (rect ∷ ys) ys ≡ (xs ++ cond b (rect ∷ []) []) ++ ys
+joined true rect xs ys = rw append_assoc refl
+joined false rect xs ys = rw append-nil refl
+
 -- an obstacle that passes stands behind those that passed before it
 pub filter_turn :
     (f : Rectangle → Bool) (xs : List Rectangle) (rect : Rectangle) (rects : List Rectangle)
     → xs ++ filter f (rect ∷ rects) ≡ (xs ++ cond (f rect) (rect ∷ []) []) ++ filter f rects
 unfolding filter
-filter_turn f xs rect rects = go (f rect)
-  where
-    go : (b : Bool) → xs ++ cond b (rect ∷ filter f rects) (filter f rects) ≡ (xs ++ cond b (rect ∷ []) []) ++ filter f rects
-    go true = rw append_assoc refl
-    go false = rw append-nil refl
+filter_turn f xs rect rects = joined (f rect) rect xs (filter f rects)
 
 -- whether what is left of some obstacles is cleared, where one more is not, and where it is
 module _ (px py clearance : Float) (obstacles : List Rectangle) (i : ℕ) where
@@ -115,7 +118,14 @@ rects_end l k n h =
     let e : n - k ≡ 0 = omega arith in
     rw e
 
--- the code's 1.0 / 0.0
+-- the library's test
+pub finite_test : (x : Float) → float_is_finite x ≡ is_finite x
+unfolding float_is_finite is_finite abs Ieee.lt Ieee.of_bits Ieee.of_fields Ieee.odd
+finite_test nan = refl
+finite_test (inf s) = refl
+finite_test (fin s m e) = refl
+
+-- 1.0 / 0.0
 pub infinite : 1ᶠ /ᶠ 0ᶠ ≡ ∞
 unfolding Ieee.of_bits Ieee.of_fields Ieee.odd Ieee.div
 infinite = refl

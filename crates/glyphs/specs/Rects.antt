@@ -1,6 +1,7 @@
 -- Obstacles as they lie in a list of floats, four each: the last of them, those of a list's front, and those that pass a test.
 -- Rests on the kit's laws of lists.
-use Rattle.std.specs.Prelude.{◌≡◌, ℕ, zero, suc, ◌+◌, ◌-◌, ◌*◌, ◌/◌, ◌<◌, ◌≤◌, Bool, cond, List, [], ◌∷◌, ◌++◌, length, take, slice_index_or, refl, Float}
+use Rattle.std.specs.Prelude.{◌≡◌, ℕ, zero, suc, ◌+◌, ◌-◌, ◌*◌, ◌/◌, ◌<◌, ◌≤◌, Bool}
+use Rattle.std.specs.Prelude.{cond, List, [], ◌∷◌, ◌++◌, length, take, slice_index_or, refl, Float}
 use Rattle.std.proofs.Common.{ap, ◌∙◌, append-nil, arith, get_or-take, length-take-le}
 use Rattle.std.specs.Float.{nan}
 use Rattle.glyphs.specs.declared.rect.Rectangle.{Rectangle}
@@ -37,7 +38,8 @@ rects_front l m h =
 
 -- obstacle k is kept or not
 pub filter_step :
-    (f : Rectangle → Bool) (l : List Float) (k n : ℕ) (xs : List Rectangle) (rect : Rectangle) (b : Bool) → k < n → rect ≡ rect_at l k → b ≡ f rect
+    (f : Rectangle → Bool) (l : List Float) (k n : ℕ) (xs : List Rectangle) (rect : Rectangle) (b : Bool) → k < n → rect ≡ rect_at l k
+    → b ≡ f rect
     → xs ++ filter f (rects_from l k (n - k)) ≡ (xs ++ cond b (rect ∷ []) []) ++ filter f (rects_from l (k + 1) (n - (k + 1)))
 filter_step f l k n xs rect b h e g =
     rw (rects_step l k n h, ← e, g) (filter_turn f xs rect (rects_from l (k + 1) (n - (k + 1))))

@@ -1,11 +1,17 @@
--- Marks as a list of their coordinates, x and y in turn: the points of such a list, the list of points, whether a place keeps a distance from one, and from how many it does not.
--- The laws let code go between the two. Rests on the kit's laws of lists.
-use Rattle.std.specs.Prelude.{◌≡◌, ℕ, zero, suc, ◌+◌, ◌*◌, ◌/◌, ◌<◌, ◌≤◌, Bool, not, List, [], ◌∷◌, length, take, drop, slice_index_or, slice_set, refl, Float}
-use Rattle.std.proofs.Common.{ap, arith, add-one, length-set}
+-- Marks as a list of their coordinates, x and y in turn: the points of such a list, the list of points, whether a place keeps a
+-- distance from one, and from how many it does not. The laws let code go between the two. Rests on the kit's laws of lists.
+use Rattle.std.specs.Prelude.{◌≡◌, ℕ, zero, suc, ◌+◌, ◌*◌, ◌/◌, ◌<◌, ◌≤◌, Bool, not, ◌&&◌, refl, Float}
+use Rattle.std.specs.Prelude.{List, [], ◌∷◌, length, take, drop, slice_index_or, slice_set}
+use Rattle.std.proofs.Common.{sym, ap, ◌∙◌, arith, add-one, length-set, length-take-le, take-take, drop-drop}
+use Rattle.std.proofs.lemmas.List.{drop-take}
+use Rattle.std.proofs.Math.Bool.{and_assoc}
 use Rattle.std.proofs.Math.ListN.{drop_of_length-le}
 use Rattle.std.proofs.Math.Seq.{take-nil, drop-nil, drop-cons}
 use Rattle.std.specs.Float.{nan}
+use Rattle.std.specs.Simd.{first_chunks}
 use mir.Val.{bool_byte}
+use Rattle.laws.specs.Any.{all}
+use Rattle.laws.specs.Blocks.{all_block}
 use Rattle.float.specs.Ops.{◌+ᶠ◌, ◌-ᶠ◌, ◌*ᶠ◌, ◌≥ᶠ◌}
 use Rattle.glyphs.specs.declared.rect.Point.{Point}
 
@@ -25,14 +31,17 @@ unfoldable pub flat : List Point → List Float
 flat [] = []
 flat (p ∷ ps) = p.x ∷ p.y ∷ flat ps
 
--- (x - q.x()).powi(2) + (y - q.y()).powi(2) >= least
-unfoldable pub apart : Float → Float → Float → Point → Bool
-apart x y least q = (x -ᶠ q.x) *ᶠ (x -ᶠ q.x) +ᶠ (y -ᶠ q.y) *ᶠ (y -ᶠ q.y) ≥ᶠ least
+-- (p.x() - q.x()).powi(2) + (p.y() - q.y()).powi(2)
+abbrev pub squared_distance : Point → Point → Float
+squared_distance p q = (p.x -ᶠ q.x) *ᶠ (p.x -ᶠ q.x) +ᶠ (p.y -ᶠ q.y) *ᶠ (p.y -ᶠ q.y)
+
+unfoldable pub apart : Point → Float → Point → Bool
+apart p least q = squared_distance p q ≥ᶠ least
 
 -- how many of the points are nearer than that
-unfoldable pub near_count : Float → Float → Float → List Point → ℕ
-near_count x y least [] = 0
-near_count x y least (q ∷ qs) = bool_byte (not (apart x y least q)) + near_count x y least qs
+unfoldable pub near_count : Point → Float → List Point → ℕ
+near_count p least [] = 0
+near_count p least (q ∷ qs) = bool_byte (not (apart p least q)) + near_count p least qs
 
 -- ---- laws
 
@@ -100,12 +109,42 @@ spots_drop (suc i) [] = rw (drop-nil, drop-nil)
 spots_drop (suc i) (x ∷ []) = rw (twice, drop-nil)
 spots_drop (suc i) (x ∷ y ∷ l) = rw twice (spots_drop i l)
 
+-- a test of each of a list's points, where its first blocks of eight are cut off
+module _ (test : Point → Bool) where
+  abbrev pub all_of : List Float → Bool
+  all_of l = all test (spots_of l)
+
+  pub all_cut : (k : ℕ) (l : List Float) → all_of l ≡ all all_of (first_chunks 16 k l) && all_of (drop (k * 16) l)
+  unfolding all
+  all_cut zero l = refl
+  all_cut (suc k) l =
+      let step : suc k * 16 ≡ 16 + k * 16 = omega arith in
+      all_block test 8 0 (spots_of l)
+      ∙ rw (step, ← drop-drop (k * 16) 16 l, ← spots_take 8 l, ← spots_drop 8 l, all_cut k (drop 16 l))
+      (sym (and_assoc (all_of (take 16 l)) (all all_of (first_chunks 16 k (drop 16 l))) (all_of (drop (k * 16) (drop 16 l)))))
+
+  -- the same, where the front is cut off before it is cut into blocks
+  pub all_parts :
+      (k : ℕ) (l : List Float) → k * 16 ≤ length l
+      → all_of l ≡ all all_of (first_chunks 16 (length (take (k * 16) l) / 16) (take (k * 16) l)) && all_of (drop (k * 16) l)
+  all_parts k l h =
+      let n : length (take (k * 16) l) / 16 ≡ k = rw (length-take-le (k * 16) l h) (omega arith) in
+      rw (n, first_of_front k l) (all_cut k l)
+    where
+      first_of_front : (k : ℕ) (l : List Float) → first_chunks 16 k (take (k * 16) l) ≡ first_chunks 16 k l
+      first_of_front zero l = refl
+      first_of_front (suc k) l =
+          let step : suc k * 16 ≡ 16 + k * 16 = omega arith in
+          rw (step, take-take 16 (16 + k * 16) l (omega arith), drop-take 16 (k * 16) l, first_of_front k (drop 16 l)) refl
+
 -- the count over what is left, for a loop that counts up
-module _ (x y least : Float) (l : List Point) (i : ℕ) where
-  pub near_step : (d : Point) → i < length l → near_count x y least (drop i l) ≡ bool_byte (not (apart x y least (slice_index_or l i d))) + near_count x y least (drop (i + 1) l)
+module _ (p : Point) (least : Float) (l : List Point) (i : ℕ) where
+  pub near_step :
+      (d : Point) → i < length l
+      → near_count p least (drop i l) ≡ bool_byte (not (apart p least (slice_index_or l i d))) + near_count p least (drop (i + 1) l)
   unfolding near_count
   near_step d h = rw (add-one, drop-cons l i d)
 
-  pub near_end : length l ≤ i → near_count x y least (drop i l) ≡ 0
+  pub near_end : length l ≤ i → near_count p least (drop i l) ≡ 0
   unfolding near_count
   near_end h = rw drop_of_length-le

@@ -2,7 +2,7 @@
 ghost use Rattle.std.specs.Prelude.{◌≡◌};
 ghost use Rattle.glyphs.specs.Bounds.{extents_of, ring_bounds};
 
-use crate::points::{vx, vy};
+use crate::rect::Point;
 
 // The least and the greatest x, then y, of a ring.
 #[derive(Clone, Copy)]
@@ -13,21 +13,18 @@ pub struct Extents {
     pub max_y: f64,
 }
 
-pub fn ring_extents(ring: &[f64]) -> Extents
+pub fn ring_extents(ring: &[Point]) -> Extents
     ensures { result ≡ extents_of ring.now }
 {
-    let n = ring.len() / 2;
     let mut min_x = 1.0 / 0.0;
     let mut max_x = -1.0 / 0.0;
     let mut min_y = 1.0 / 0.0;
     let mut max_y = -1.0 / 0.0;
-    for i in 0..n {
-        let x = vx(ring, i);
-        let y = vy(ring, i);
-        min_x = float::min(min_x, x);
-        max_x = float::max(max_x, x);
-        min_y = float::min(min_y, y);
-        max_y = float::max(max_y, y);
+    for p in ring {
+        min_x = float::min(min_x, p.x);
+        max_x = float::max(max_x, p.x);
+        min_y = float::min(min_y, p.y);
+        max_y = float::max(max_y, p.y);
     }
     Extents {
         min_x,
@@ -38,10 +35,10 @@ pub fn ring_extents(ring: &[f64]) -> Extents
 }
 
 // The extents of a ring, where its width and height are above 0.
-pub fn ring_bounds(ring: &[f64]) -> Option<Extents>
+pub fn ring_bounds(ring: &[Point]) -> Option<Extents>
     ensures { result ≡ ring_bounds ring.now }
 {
-    if ring.len() / 2 < 3 {
+    if ring.len() < 3 {
         return None;
     }
     let bounds = ring_extents(ring);

@@ -7,7 +7,6 @@ pub mod halton;
 pub mod hash;
 pub mod mode;
 pub mod options;
-pub mod points;
 pub mod quotas;
 pub mod rect;
 pub mod spots;

@@ -17,10 +17,7 @@ fn total(weights: &[f64]) -> f64
 fn no_weight(total: f64) -> bool
     ensures { result ≡ no_weight total }
 {
-    if total != total {
-        return true;
-    }
-    total <= 0.0
+    total.is_nan() | (total <= 0.0)
 }
 
 // A count that is shared out by weights, with their total. The count is exact as a float.

@@ -1,6 +1,7 @@
 // point.rs and rectangle.rs, as data, and glyphs.rs: obstacles.
 ghost use Rattle.std.specs.Prelude.{◌≡◌};
 ghost use Rattle.glyphs.specs.Rect.{is_finite, dist_to_rect, clear_of_obstacles, sane, near};
+ghost use Rattle.glyphs.specs.Spots.{squared_distance};
 
 use crate::bounds::Extents;
 
@@ -9,6 +10,12 @@ use crate::bounds::Extents;
 pub struct Point {
     pub x: f64,
     pub y: f64,
+}
+
+pub fn squared_distance(p: Point, q: Point) -> f64
+    ensures { result ≡ squared_distance p q }
+{
+    (p.x - q.x) * (p.x - q.x) + (p.y - q.y) * (p.y - q.y)
 }
 
 #[derive(Clone, Copy, Default)]
@@ -43,7 +50,7 @@ pub fn clear_of_obstacles(px: f64, py: f64, obstacles: &[Rectangle], clearance: 
 pub fn is_finite(x: f64) -> bool
     ensures { result ≡ is_finite x }
 {
-    float::abs(x) < 1.0 / 0.0
+    x.is_finite()
 }
 
 // Whether `sanitize_obstacles` keeps an obstacle.

@@ -3,7 +3,7 @@ ghost use Rattle.std.specs.Prelude.{◌≡◌, ◌+◌, ◌/◌, ◌<◌, ◌≤
 ghost use Rattle.laws.specs.Any.{all};
 ghost use Rattle.glyphs.specs.Spots.{spot_at, put_spot, spots_of, apart, near_count};
 
-use crate::rect::Point;
+use crate::rect::{Point, squared_distance};
 
 // Mark `i`.
 pub fn spot(spots: &[f64], i: usize) -> Point
@@ -44,52 +44,52 @@ pub fn spots_after(spots: &[f64], i: usize) -> &[f64]
     &spots[a..]
 }
 
-// Whether (x, y) keeps a distance whose square is `least` from a mark.
-pub fn apart(x: f64, y: f64, least: f64, q: Point) -> bool
-    ensures { result ≡ apart x y least q }
+// Whether p keeps a distance whose square is `least` from a mark.
+pub fn apart(p: Point, least: f64, q: Point) -> bool
+    ensures { result ≡ apart p least q }
 {
-    (x - q.x) * (x - q.x) + (y - q.y) * (y - q.y) >= least
+    squared_distance(p, q) >= least
 }
 
-// The same for the eight marks from mark `k` on, with no branch.
-pub fn apart_from_eight(x: f64, y: f64, least: f64, spots: &[f64], k: usize) -> bool
-    requires { k + 8 ≤ length spots.now / 2 }
-    ensures { result ≡ all (apart x y least) (take 8 (drop k (spots_of spots.now))) }
+// The same for the eight marks of a block, with no branch.
+pub fn apart_from_eight(p: Point, least: f64, block: &[f64; 16]) -> bool
+    ensures { result ≡ all (apart p least) (spots_of block.now) }
 {
     let mut ok = true;
     for j in 0..8 {
-        ok = ok & apart(x, y, least, spot(spots, k + j));
+        ok = ok & apart(p, least, spot(&block[..], j));
     }
     ok
 }
 
 // The same for all marks. Whether one is too near nobody can guess, so that of the last of them, fewer than 32, none is
 // branched on.
-pub fn apart_from_all(x: f64, y: f64, least: f64, spots: &[f64]) -> bool
-    ensures { result ≡ all (apart x y least) (spots_of spots.now) }
+pub fn apart_from_all(p: Point, least: f64, spots: &[f64]) -> bool
+    ensures { result ≡ all (apart p least) (spots_of spots.now) }
 {
     let n = spots.len() / 2;
-    let blocks = n.saturating_sub(24) / 8;
-    for block in 0..blocks {
-        if !apart_from_eight(x, y, least, spots, block * 8) {
+    let (front, last) = spots.split_at(n.saturating_sub(24) / 8 * 16);
+    let (blocks, _) = front.as_chunks::<16>();
+    for block in blocks {
+        if !apart_from_eight(p, least, block) {
             return false;
         }
     }
     let mut ok = true;
-    for i in blocks * 8..n {
-        ok = ok & apart(x, y, least, spot(spots, i));
+    for i in 0..last.len() / 2 {
+        ok = ok & apart(p, least, spot(last, i));
     }
     ok
 }
 
 // How many of the marks are too near for that, with no branch.
-pub fn count_near(x: f64, y: f64, least: f64, spots: &[f64]) -> usize
-    ensures { result ≡ near_count x y least (spots_of spots.now) }
+pub fn count_near(p: Point, least: f64, spots: &[f64]) -> usize
+    ensures { result ≡ near_count p least (spots_of spots.now) }
 {
     let n = spots.len() / 2;
     let mut count = 0;
     for k in 0..n {
-        count += (!apart(x, y, least, spot(spots, k))) as usize;
+        count += (!apart(p, least, spot(spots, k))) as usize;
     }
     count
 }

@@ -7,17 +7,10 @@ pub struct Stream {
     pub state: u64,
 }
 
-// A draw of 64 bits, and the stream after it.
+// What is drawn, and the stream after it.
 #[derive(Clone, Copy)]
-pub struct Draw {
-    pub bits: u64,
-    pub next: Stream,
-}
-
-// A draw from a range, and the stream after it.
-#[derive(Clone, Copy)]
-pub struct Sample {
-    pub value: f64,
+pub struct Drawn<T> {
+    pub value: T,
     pub next: Stream,
 }
 
@@ -28,26 +21,26 @@ impl Stream {
         Stream { state: seed ^ hash }
     }
 
-    pub fn draw(self) -> Draw
+    pub fn draw(self) -> Drawn<u64>
         ensures { result ≡ draw self }
     {
         let state = self.state.wrapping_add(0x9e37_79b9_7f4a_7c15);
         let a = (state ^ (state >> 30)).wrapping_mul(0xbf58_476d_1ce4_e5b9);
         let b = (a ^ (a >> 27)).wrapping_mul(0x94d0_49bb_1331_11eb);
         let next = Stream { state };
-        Draw {
-            bits: b ^ (b >> 31),
+        Drawn {
+            value: b ^ (b >> 31),
             next,
         }
     }
 
-    pub fn random_range(self, low: f64, high: f64) -> Sample
+    pub fn random_range(self, low: f64, high: f64) -> Drawn<f64>
         ensures { result ≡ random_range self low high }
     {
         let d = self.draw();
-        let unit = ((d.bits >> 11) as f64) / 9007199254740992.0;
+        let unit = ((d.value >> 11) as f64) / 9007199254740992.0;
         let next = d.next;
-        Sample {
+        Drawn {
             value: low + (high - low) * unit,
             next,
         }

@@ -119,5 +119,8 @@ cases =
     ∷ []
 
 cases_hold : map (λ (c : Case). read_fault c.job) cases ≡ map (λ (c : Case). c.number) cases
-unfolding cases job options obstacles plain square worked with cut two with_obstacles zeros bytes uint item in_range coord_in ◌unless◌ ◌or_else◌ faults past ring_fault ring_end piece_fault piece_end lent_fault number_after choices_fault measures_fault head_fault obstacles_fault obstacles_end letter letter_fault above key_at key_fault counts_fault count_at zone_end opening_fault zone_fault zone_next zones_end zones_fault items_fault read_fault flat_map
+unfolding cases job options obstacles plain square worked with cut two with_obstacles zeros bytes uint item in_range coord_in ◌unless◌ ◌or_else◌
+    faults past ring_fault ring_end piece_fault piece_end lent_fault number_after choices_fault measures_fault head_fault obstacles_fault
+    obstacles_end letter letter_fault above key_at key_fault counts_fault count_at zone_end opening_fault zone_fault zone_next zones_end zones_fault
+    items_fault read_fault flat_map
 cases_hold = refl

@@ -5,8 +5,8 @@ use Rattle.std.proofs.Common.{ap, ◌∙◌, arith}
 use Rattle.std.specs.Float.{nan}
 use Rattle.glyphs.specs.Rect.{rect_at, rects_from, rectangles}
 use Rattle.format.specs.Rows.{faults, past, each}
-use Rattle.format.specs.Numbers.{u16, coord_in, coord_at, next_coord}
-use Rattle.format.specs.RowLaws.{faults_more, length_each, each_at}
+use Rattle.format.specs.Numbers.{u16, coord_in, coord_at, next_coord, point_at}
+use Rattle.format.specs.RowLaws.{faults_by, length_each, each_at}
 use Rattle.job.specs.Head.{obstacles_from, rectangle_fault, rectangle, next_rectangle}
 
 past_coords : (n at : ℕ) → past next_coord n at ≡ at + 4 * n
@@ -16,11 +16,8 @@ past_coords (suc n) at = past_coords n (at + 4) ∙ omega arith
 
 -- four coordinates at a time
 pub faults_rectangles : (s : List ℕ) (n at : ℕ) → faults (coord_in s 8) next_coord (4 * n) at ≡ faults (rectangle_fault s) next_rectangle n at
-unfolding faults rectangle_fault
-faults_rectangles s zero at = refl
-faults_rectangles s (suc n) at =
-    let e : 4 * suc n ≡ 4 + 4 * n = omega arith in
-    rw (e, faults_more (coord_in s 8) next_coord 4 (4 * n) at, past_coords 4 at, faults_rectangles s n (at + 16))
+unfolding rectangle_fault
+faults_rectangles s = faults_by (coord_in s 8) next_coord next_rectangle 4 (past_coords 4)
 
 module _ (s : List ℕ) (n at : ℕ) where
   coords : List Float
@@ -31,7 +28,7 @@ module _ (s : List ℕ) (n at : ℕ) where
   coord_is i to h e = each_at next_coord (coord_at s) n at nan i h ∙ ap (coord_at s) (past_coords i at ∙ e)
 
   rects_are : (k m : ℕ) → 4 * (k + m) ≤ n → rects_from coords k m ≡ each (rectangle s) next_rectangle m (at + 16 * k)
-  unfolding rects_from rect_at each rectangle
+  unfolding rects_from rect_at each rectangle point_at
   rects_are k zero h = refl
   rects_are k (suc m) few =
       let from = at + 16 * k in

@@ -4,8 +4,9 @@ use Rattle.std.specs.Prelude.{ℕ, zero, suc, ◌+◌, ◌-◌, ◌≡◌, refl,
 use mathlib.Core.List.{List, [], ◌∷◌, ◌++◌, map, flat_map}
 use Rattle.std.specs.Float.Ieee.{neg, div, of_int, of_bits}
 use Rattle.float.specs.Ops.{literal, 0ᶠ}
+use Rattle.glyphs.specs.declared.rect.Point.{Point}
 use Rattle.format.specs.Rows.{◌unless◌, ◌or_else◌, faults, past, each}
-use Rattle.format.specs.Numbers.{uint, bytes, item, in_range, coord_in, coord_at, coord_of, share}
+use Rattle.format.specs.Numbers.{uint, bytes, item, in_range, coord_in, coord_at, coord_of, point_at, share}
 use Rattle.format.specs.Pieces.{ring, ring_fault, ring_end, piece, piece_fault, piece_end}
 use Rattle.job.specs.Head.{lent_fault, number_after, choices_fault, measures_fault, head_fault, obstacles_fault, obstacles_end}
 use Rattle.job.specs.Zones.{zone, letter, letter_fault, above, key_at, key_fault, counts_fault, count_at, zone_end, opening_fault, zone_fault, zone_next}
@@ -52,7 +53,9 @@ cuts (suc n) = cuts n ++ cut (n + 4) ∷ []
 
 -- a job that ends in or right before an item is refused with 6
 cuts_refused : map read_fault (cuts 77) ≡ 1 ∷ map (λ (s : List ℕ). 6) (cuts 76)
-unfolding cuts cut job options obstacles square worked bytes uint item in_range coord_in ◌unless◌ ◌or_else◌ faults past ring_fault ring_end piece_fault piece_end lent_fault number_after choices_fault measures_fault head_fault obstacles_fault obstacles_end letter letter_fault above key_at key_fault counts_fault count_at zone_end opening_fault zone_fault zone_next zones_end zones_fault items_fault read_fault flat_map
+unfolding cuts cut job options obstacles square worked bytes uint item in_range coord_in ◌unless◌ ◌or_else◌ faults past ring_fault ring_end
+    piece_fault piece_end lent_fault number_after choices_fault measures_fault head_fault obstacles_fault obstacles_end letter letter_fault above
+    key_at key_fault counts_fault count_at zone_end opening_fault zone_fault zone_next zones_end zones_fault items_fault read_fault flat_map
 cuts_refused = refl
 
 -- ---- what is read
@@ -60,6 +63,10 @@ cuts_refused = refl
 ten : Float
 ten = literal 0x4024_0000_0000_0000
 
-worked_zones : zones (job worked) ≡ record { key = 65 ∷ []; count = 1; pieces = ((0ᶠ ∷ 0ᶠ ∷ ten ∷ 0ᶠ ∷ ten ∷ ten ∷ 0ᶠ ∷ ten ∷ []) ∷ []) ∷ [] } ∷ []
-unfolding ten job options obstacles square worked bytes uint flat_map obstacles_end count_at zone key_at zones zone_end each past piece piece_end ring ring_end coord_at coord_of share neg div of_int of_bits
+abbrev by : Float → Float → Point
+by x y = record { x = x; y = y }
+
+worked_zones : zones (job worked) ≡ record { key = 65 ∷ []; count = 1; pieces = ((by 0ᶠ 0ᶠ ∷ by ten 0ᶠ ∷ by ten ten ∷ by 0ᶠ ten ∷ []) ∷ []) ∷ [] } ∷ []
+unfolding ten job options obstacles square worked bytes uint flat_map obstacles_end count_at zone key_at zones zone_end each past piece piece_end ring
+    ring_end point_at coord_at coord_of share neg div of_int of_bits
 worked_zones = refl

@@ -9,7 +9,7 @@ use Rattle.discs.specs.declared.options.Radius.{Radius}
 use Rattle.discs.specs.declared.options.Radius.TheVariants.{Auto, Stated}
 use Rattle.discs.specs.declared.options.GlyphOptions.{GlyphOptions}
 use Rattle.format.specs.Rows.{◌unless◌, ◌or_else◌, faults, each}
-use Rattle.format.specs.Numbers.{u8, u16, u32, u64, u8_in, u16_in, u32_in, whole, share, coord_in, coord_at, next_coord}
+use Rattle.format.specs.Numbers.{u8, u16, u32, u64, u8_in, u16_in, u32_in, whole, share, coord_in, coord_at, next_coord, point_at}
 
 -- ---- where each stands
 
@@ -151,7 +151,7 @@ rectangle_fault s at = faults (coord_in s 8) next_coord 4 at
 unfoldable pub rectangle : List ℕ → ℕ → Rectangle
 rectangle s at =
     record {
-      center = record { x = coord_at s at; y = coord_at s (at + 4) };
+      center = point_at s at;
       width = coord_at s (at + 8);
       height = coord_at s (at + 12);
     }

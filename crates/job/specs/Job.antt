@@ -6,11 +6,12 @@ use Rattle.discs.specs.PlaceGlyphs.{work_of}
 use Rattle.discs.specs.Floor.{row_is_left_in}
 use Rattle.discs.specs.declared.options.GlyphOptions.{GlyphOptions}
 use Rattle.discs.specs.declared.rows.Row.{Row}
+use Rattle.glyphs.specs.declared.rect.Point.{Point}
 use Rattle.glyphs.specs.Points.{vertices}
-use Rattle.format.specs.Rows.{◌unless◌, ◌or_else◌, faults, past, each, flat}
+use Rattle.format.specs.Rows.{◌unless◌, ◌or_else◌, faults, past, each}
 use Rattle.format.specs.Numbers.{u16, u16_in}
 use Rattle.job.specs.Head.{lent_fault, head_fault, options_of, obstacles_fault, obstacles_end, obstacles}
-use Rattle.job.specs.Zones.{Place, first_place, zone, zone_end, zone_fault, zone_next, zone_row}
+use Rattle.job.specs.Zones.{Place, first_place, zone, zone_end, zone_fault, zone_next, row_at}
 
 -- ---- zone count u16 0..64, zones, and nothing after them
 
@@ -49,9 +50,9 @@ job_of s = record { options = options_of s; obstacles = obstacles s; zones = zon
 
 -- ---- what the reader puts into flat slices
 
--- the coordinates of all rings, end to end; the number of vertices of each ring; the number of rings of each piece
-unfoldable pub coords_of : List Zone → List Float
-coords_of zs = flat_map (λ (z : Zone). flat_map flatten z.pieces) zs
+-- the points of all rings, end to end; the number of vertices of each ring; the number of rings of each piece
+unfoldable pub points_of : List Zone → List Point
+points_of zs = flat_map (λ (z : Zone). flat_map flatten z.pieces) zs
 
 unfoldable pub sizes_of : List Zone → List ℕ
 sizes_of zs = flat_map (λ (z : Zone). flat_map (map vertices) z.pieces) zs
@@ -61,7 +62,7 @@ rings_of zs = flat_map (λ (z : Zone). map length z.pieces) zs
 
 -- the row of each zone
 unfoldable pub rows_of : List ℕ → List Row
-rows_of s = flat (zone_row s) (zone_end s) (u16 s (zones_at s)) (zones_at s + 2)
+rows_of s = each (row_at s) (zone_end s) (u16 s (zones_at s)) (zones_at s + 2)
 
 -- ---- row 14, the sheet buffer, by its length
 

@@ -11,7 +11,8 @@ use Rattle.format.specs.RowLaws.{both}
 use Rattle.format.specs.NumberLaws.{item_passed}
 use Rattle.format.specs.Exact.{Coordinate}
 use Rattle.format.specs.Known.{All, PieceKnown}
-use Rattle.job.specs.Head.{radius_kind_at, radius_at, gap_at, boundary_kind_at, boundary_gap_at, precision_at, attempts_at, number_after, choices_fault, measures_fault, head_fault, radius_of, boundary_of, options_of}
+use Rattle.job.specs.Head.{radius_kind_at, radius_at, gap_at, boundary_kind_at, boundary_gap_at, precision_at, attempts_at, number_after, choices_fault}
+use Rattle.job.specs.Head.{measures_fault, head_fault, radius_of, boundary_of, options_of}
 use Rattle.job.specs.Job.{Job}
 
 -- ---- options

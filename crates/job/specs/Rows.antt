@@ -1,10 +1,10 @@
 -- Laws of rows: what the rows of a job without fault say of its zones, and the room that its sheet may want.
 -- Rests on the laws of runs and zones.
-use Rattle.std.specs.Prelude.{ℕ, zero, suc, ◌+◌, ◌*◌, ◌<◌, ◌≤◌, ◌≡◌, Bool, true, false, cond, List, [], ◌∷◌, ◌++◌, length, take, drop, get_or}
+use Rattle.std.specs.Prelude.{ℕ, zero, suc, ◌+◌, ◌*◌, ◌<◌, ◌≤◌, ◌≡◌, Bool, true, false, cond, List, [], ◌∷◌, length, take, drop, get_or}
 use Rattle.std.proofs.Math.Path.{refl, ap}
 use Rattle.std.proofs.Common.{sym, ◌∙◌, arith, add-one, drop-cons, drop_of_length-le}
 use Rattle.laws.specs.Every.{Every}
-use Rattle.format.specs.Rows.{faults, past, each, flat}
+use Rattle.format.specs.Rows.{faults, each, past}
 use Rattle.format.specs.Numbers.{u8, u16}
 use Rattle.format.specs.Pieces.{piece, piece_end}
 use Rattle.format.specs.RowLaws.{both, length_each}
@@ -13,7 +13,7 @@ use Rattle.discs.specs.Region.{Zone}
 use Rattle.discs.specs.PlaceGlyphs.{is_left_in, work_of}
 use Rattle.discs.specs.Floor.{row_is_left_in}
 use Rattle.discs.specs.declared.rows.Row.{Row}
-use Rattle.job.specs.Zones.{Place, zone, zone_end, zone_next, zone_fault, opening_fault, key_fault, key_at, count_at, pieces_at, row_at, zone_row}
+use Rattle.job.specs.Zones.{Place, zone, zone_end, zone_next, zone_fault, opening_fault, key_fault, key_at, count_at, pieces_at, row_at}
 use Rattle.job.specs.ZoneLaws.{key_inside, opening_passed}
 use Rattle.job.specs.Job.{zones_at, first_zone, zones, zones_fault, items_fault, job_of, zones_room, sheet_room, row_room, rows_room, rows_of}
 
@@ -73,12 +73,17 @@ length_are s (z ∷ zs) (row ∷ rows) r = ap suc (length_are s zs rows r.1)
 
 rows_are_lem :
     (s : List ℕ) (n : ℕ) (z : Place) → faults (zone_fault s) (zone_next s) n z ≡ 0
-    → AreRows s (each (zone s) (zone_end s) n z.at) (flat (zone_row s) (zone_end s) n z.at)
-unfolding faults AreRows flat each zone_row zone_next
+    → AreRows s (each (zone s) (zone_end s) n z.at) (each (row_at s) (zone_end s) n z.at)
+unfolding faults AreRows each zone_next
 rows_are_lem s zero z e = tt
 rows_are_lem s (suc n) z e =
     let p = both (zone_fault s z) (faults (zone_fault s) (zone_next s) n (zone_next s z)) e in
     (is_row s z p.0, rows_are_lem s n (zone_next s z) p.1)
+
+-- a row for each zone
+pub rows_count : (s : List ℕ) → length (rows_of s) ≡ u16 s (zones_at s)
+unfolding rows_of
+rows_count s = length_each (zone_end s) (row_at s) (u16 s (zones_at s)) (zones_at s + 2)
 
 -- ---- the room
 
@@ -109,15 +114,8 @@ unfolding past zone_next
 past_at s zero z = refl
 past_at s (suc i) z = past_at s i (zone_next s z)
 
-row_at_lem :
-    (s : List ℕ) (n at : ℕ) (rest : List Row) (i : ℕ) (d : Row) → i < n
-    → get_or (flat (zone_row s) (zone_end s) n at ++ rest) i d ≡ row_at s (past (zone_end s) i at)
-unfolding flat past zone_row
-row_at_lem s zero at rest i d h = absurd (omega arith)
-row_at_lem s (suc n) at rest zero d h = refl
-row_at_lem s (suc n) at rest (suc i) d h = row_at_lem s n (zone_end s at) rest i d (omega (arith, h))
+-- ---- one turn of a walk over rows
 
--- one turn of a walk over rows
 pub rooms_turn : (rows : List Row) (k : ℕ) (d : Row) → k < length rows → rows_room (drop k rows) ≡ row_room (get_or rows k d) + rows_room (drop (k + 1) rows)
 unfolding rows_room
 rooms_turn rows k d h = rw (add-one k, drop-cons rows k d h)
@@ -125,6 +123,8 @@ rooms_turn rows k d h = rw (add-one k, drop-cons rows k d h)
 pub rooms_end : (rows : List Row) (k : ℕ) → length rows ≤ k → rows_room (drop k rows) ≡ 0
 unfolding rows_room
 rooms_end rows k h = rw (drop_of_length-le rows h)
+
+-- ---- the rows of a job without fault
 
 module _ (s : List ℕ) (ok : items_fault s ≡ 0) where
   no_fault : faults (zone_fault s) (zone_next s) (u16 s (zones_at s)) (first_zone s) ≡ 0

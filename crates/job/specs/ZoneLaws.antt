@@ -5,11 +5,12 @@ use Rattle.std.proofs.Common.{arith}
 use borrow.Author.Tests.{lt-ltb, le-ltb, leb-true}
 use Rattle.format.specs.Rows.{faults}
 use Rattle.format.specs.Numbers.{u8, u16}
-use Rattle.format.specs.RowLaws.{both, passed, length_each}
+use Rattle.format.specs.RowLaws.{both, passed, past_within, length_each}
 use Rattle.format.specs.NumberLaws.{item_passed, next_byte_lem}
-use Rattle.format.specs.Pieces.{piece_end}
-use Rattle.format.specs.PieceLaws.{few_rings_each}
-use Rattle.job.specs.Zones.{Place, letter_fault, next_byte, above, key_fault, counts_fault, count_at, pieces_at, opening_fault, zone_fault, zone_sizes, zone_rings, zone_row}
+use Rattle.format.specs.Pieces.{piece_fault, piece_end}
+use Rattle.format.specs.PieceLaws.{piece_inside, few_rings_each}
+use Rattle.job.specs.Zones.{Place, letter_fault, next_byte, above, key_fault, counts_fault, count_at, pieces_at, opening_fault, zone_fault}
+use Rattle.job.specs.Zones.{zone_end, zone_sizes, zone_rings}
 
 -- ---- what has no fault is whole
 
@@ -51,6 +52,12 @@ pub opening_passed : (s : List ℕ) (z : Place) → opening_fault s z ≡ 0 → 
 unfolding opening_fault
 opening_passed s z e = counts_passed s (count_at s z.at) z.marks (both _ _ e).1
 
+pub zone_inside : (s : List ℕ) (z : Place) → zone_fault s z ≡ 0 → zone_end s z.at ≤ length s
+unfolding zone_fault zone_end
+zone_inside s z e =
+    let p = both _ _ e in
+    past_within (piece_fault s) (piece_end s) (length s) (piece_inside s) (pieces_at s z.at) (count_at s z.at + 3) (opening_passed s z p.0).inside p.1
+
 pub count_at_lem : (s : List ℕ) (at : ℕ) → count_at s at ≡ at + 1 + u8 s at
 unfolding count_at
 count_at_lem s at = refl
@@ -70,10 +77,6 @@ zone_few s z e =
       sizes = omega (arith, c.pieces, few_rings_each s (pieces_at s z.at) (count_at s z.at + 3) p.1);
       rings = omega (arith, c.pieces, length_each (piece_end s) (u8 s) (pieces_at s z.at) (count_at s z.at + 3));
     }
-
-pub length_row : (s : List ℕ) (at : ℕ) → length (zone_row s at) ≡ 1
-unfolding zone_row
-length_row s at = refl
 
 -- ---- one turn of a comparison of keys
 

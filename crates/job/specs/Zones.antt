@@ -1,8 +1,9 @@
 -- The job's zones: what is refused, what stands there, and where it ends. Definitions only.
-use Rattle.std.specs.Prelude.{ℕ, ◌+◌, Bool, true, false, cond, ◌||◌, List, [], ◌∷◌, take, drop, ltb, leb, Float}
+use Rattle.std.specs.Prelude.{ℕ, ◌+◌, Bool, true, false, cond, ◌||◌, List, [], ◌∷◌, take, drop, ltb, leb}
+use Rattle.glyphs.specs.declared.rect.Point.{Point}
 use Rattle.format.specs.Rows.{◌unless◌, ◌or_else◌, faults, past, each, flat}
 use Rattle.format.specs.Numbers.{u8, u16, u8_in, u16_in, whole, within}
-use Rattle.format.specs.Pieces.{piece, piece_fault, piece_end, piece_coords, ring_sizes}
+use Rattle.format.specs.Pieces.{piece, piece_fault, piece_end, piece_points, ring_sizes}
 use Rattle.discs.specs.Region.{Zone}
 use Rattle.discs.specs.declared.rows.Row.{Row}
 
@@ -88,9 +89,9 @@ zone_next s z = record { at = zone_end s z.at; last = key_at s z.at; marks = z.m
 
 -- ---- what the reader puts into flat slices of a zone
 
--- the coordinates of its pieces, end to end, the number of vertices of each ring, the number of rings of each piece
-unfoldable pub zone_coords : List ℕ → ℕ → List Float
-zone_coords s at = flat (piece_coords s) (piece_end s) (pieces_at s at) (count_at s at + 3)
+-- the points of its pieces, end to end, the number of vertices of each ring, the number of rings of each piece
+unfoldable pub zone_points : List ℕ → ℕ → List Point
+zone_points s at = flat (piece_points s) (piece_end s) (pieces_at s at) (count_at s at + 3)
 
 unfoldable pub zone_sizes : List ℕ → ℕ → List ℕ
 zone_sizes s at = flat (ring_sizes s) (piece_end s) (pieces_at s at) (count_at s at + 3)
@@ -101,6 +102,3 @@ zone_rings s at = each (u8 s) (piece_end s) (pieces_at s at) (count_at s at + 3)
 -- where its key starts, how long that is, its mark count, its piece count
 unfoldable pub row_at : List ℕ → ℕ → Row
 row_at s at = record { key = at + 1; len = u8 s at; count = marks_at s at; pieces = pieces_at s at }
-
-unfoldable pub zone_row : List ℕ → ℕ → List Row
-zone_row s at = row_at s at ∷ []

@@ -4,7 +4,9 @@ ghost use Rattle.glyphs.specs.Rect.{rectangles};
 ghost use Rattle.format.specs.Refusals.{fault_of};
 ghost use Rattle.format.specs.Rows.{◌or_else◌};
 ghost use Rattle.format.specs.Numbers.{u8, u32, u8_in};
-ghost use Rattle.job.specs.Head.{version_at, arrangement_at, gap_at, obstacles_at, lent_fault, work_fault, number_after, choices_fault, head_fault, arrangement_of, policy_of, choices_of, options_of, obstacles_fault_at, obstacles_end_at, obstacles_from, rectangle_fault, rectangle, next_rectangle};
+ghost use Rattle.job.specs.Head.{version_at, arrangement_at, gap_at, obstacles_at, lent_fault, work_fault, number_after};
+ghost use Rattle.job.specs.Head.{choices_fault, head_fault, arrangement_of, policy_of, choices_of, options_of};
+ghost use Rattle.job.specs.Head.{obstacles_fault_at, obstacles_end_at, obstacles_from, rectangle_fault, rectangle, next_rectangle};
 ghost use Rattle.job.specs.Steps.{number_of_kind};
 
 use arrayvec::ArrayVec;
@@ -13,7 +15,7 @@ use format::numbers::uint;
 use format::reader::Reader;
 use format::refusal::Refusal;
 use glyphs::options::{GlyphArrangement, ObstaclePolicy};
-use glyphs::rect::{Point, Rectangle};
+use glyphs::rect::Rectangle;
 
 // Row 1, the lent job. The reader stands behind the length field.
 pub fn open(bytes: &[u8]) -> Result<Reader<'_>, Refusal>
@@ -56,7 +58,8 @@ fn read_choice(job: &mut Reader, most: u64) -> Result<Option<f64>, Refusal>
     Ok(Some(job.share(0, most, Refusal::HeadValue)?))
 }
 
-// The case of a number that `item` found in its range. A `TryFrom` could fail, and these two cannot.
+// The case of a number that `item` found in its range. A `TryFrom` could fail, and these two cannot. A `From<u64>` would be
+// open to every caller, and take any other number for the last case.
 fn arrangement_of(n: u64) -> GlyphArrangement
     ensures { result ≡ arrangement_of n }
 {
@@ -128,12 +131,8 @@ fn read_rectangle(job: &mut Reader) -> Result<Rectangle, Refusal>
     ensures next { OnOk result (job.new.at ≡ next_rectangle job.old.at) }
     ensures bytes { job.new.bytes ≡ job.old.bytes }
 {
-    let center = Point {
-        x: job.coord(Refusal::Obstacle)?,
-        y: job.coord(Refusal::Obstacle)?,
-    };
     Ok(Rectangle {
-        center,
+        center: job.point(Refusal::Obstacle)?,
         width: job.coord(Refusal::Obstacle)?,
         height: job.coord(Refusal::Obstacle)?,
     })

@@ -16,26 +16,19 @@ use format::reader::Reader;
 use format::refusal::Refusal;
 use glyphs::rect::Rectangle;
 
-// The options of a job, and how many zones it has.
-#[derive(Clone, Copy)]
-pub struct Items {
-    pub options: GlyphOptions,
-    pub zones: usize,
-}
-
-// From the zone count to the job's end. Answers that count.
-fn read_tail<const COORDS: usize, const RINGS: usize, const PIECES: usize>(
+// From the zone count to the job's end.
+fn read_tail<const POINTS: usize, const RINGS: usize, const PIECES: usize, const ROWS: usize>(
     job: &mut Reader,
-    pieces: &mut Pieces<COORDS, RINGS, PIECES>,
-    rows: &mut [Row],
-) -> Result<usize, Refusal>
+    pieces: &mut Pieces<POINTS, RINGS, PIECES>,
+    rows: &mut ArrayVec<Row, ROWS>,
+) -> Result<(), Refusal>
     requires start { job.old.at ≡ zones_at job.old.bytes.now }
-    requires coord_room { Room job.old.bytes.now job.old.at pieces.old }
+    requires point_room { Room job.old.bytes.now job.old.at pieces.old }
     requires ring_room { length pieces.old.sizes.items + 9216 ≤ RINGS }
     requires piece_room { length pieces.old.rings.items + 1024 ≤ PIECES }
-    requires row_room { 64 ≤ length rows.old }
+    requires row_room { length rows.old.items + 64 ≤ ROWS }
     ensures fault { fault_of result ≡ zones_fault job.old.bytes.now }
-    ensures read { IfOk result (λ n. JobPut job.old.bytes.now n pieces.old pieces.new rows.old rows.new) }
+    ensures read { OnOk result (JobPut job.old.bytes.now pieces.old pieces.new rows.old.items rows.new.items) }
     ensures bytes { job.new.bytes ≡ job.old.bytes }
 {
     let n = job.item(2, 0, 64, Refusal::Count)? as usize;
@@ -43,35 +36,36 @@ fn read_tail<const COORDS: usize, const RINGS: usize, const PIECES: usize>(
     if job.at < job.bytes.len() {
         return Err(Refusal::BytesLeftOver);
     }
-    Ok(n)
+    Ok(())
 }
 
-// Rows 3 to 13 and 7. Where there is no fault, the job's obstacles and pieces stand behind those that were there, and
-// the row of each zone stands in front of `rows`.
+// Rows 3 to 13 and 7, and the options. Where there is no fault, the job's obstacles and pieces and the row of each zone
+// stand behind those that were there.
 pub fn read_items<
     const OBSTACLES: usize,
-    const COORDS: usize,
+    const POINTS: usize,
     const RINGS: usize,
     const PIECES: usize,
+    const ROWS: usize,
 >(
     job: &mut Reader,
     obstacles: &mut ArrayVec<Rectangle, OBSTACLES>,
-    pieces: &mut Pieces<COORDS, RINGS, PIECES>,
-    rows: &mut [Row],
-) -> Result<Items, Refusal>
+    pieces: &mut Pieces<POINTS, RINGS, PIECES>,
+    rows: &mut ArrayVec<Row, ROWS>,
+) -> Result<GlyphOptions, Refusal>
     requires start { job.old.at ≡ version_at }
     requires obstacle_room { length obstacles.old.items + 64 ≤ OBSTACLES }
-    requires coord_room { Room job.old.bytes.now job.old.at pieces.old }
+    requires point_room { Room job.old.bytes.now job.old.at pieces.old }
     requires ring_room { length pieces.old.sizes.items + 9216 ≤ RINGS }
     requires piece_room { length pieces.old.rings.items + 1024 ≤ PIECES }
-    requires row_room { 64 ≤ length rows.old }
+    requires row_room { length rows.old.items + 64 ≤ ROWS }
     ensures fault { fault_of result ≡ items_fault job.old.bytes.now }
-    ensures read { IfOk result (λ items.
-        ItemsRead job.old.bytes.now items obstacles.old.items obstacles.new.items pieces.old pieces.new rows.old rows.new) }
+    ensures read { IfOk result (λ options.
+        ItemsRead job.old.bytes.now options obstacles.old.items obstacles.new.items pieces.old pieces.new rows.old.items rows.new.items) }
     ensures bytes { job.new.bytes ≡ job.old.bytes }
 {
     let options = read_options(job)?;
     read_obstacles(job, obstacles)?;
-    let zones = read_tail(job, pieces, rows)?;
-    Ok(Items { options, zones })
+    read_tail(job, pieces, rows)?;
+    Ok(options)
 }

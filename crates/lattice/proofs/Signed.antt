@@ -1,6 +1,7 @@
 -- An `i64` and its rank, as the code computes one from the other.
 -- Rests on the kit's account of signed words.
-use Rattle.std.proofs.Common.{◌≡◌, ℕ, suc, ◌+◌, ◌-◌, ◌%◌, ◌^◌, ◌<◌, ◌≤◌, ℤ, pos, negsuc, ◌-ℤ◌, nat_abs, inl, inr, sym, refl, ap, ◌∙◌, arith, w64, SFits, to_z, of_z, le-ltb}
+use Rattle.std.proofs.Common.{◌≡◌, ℕ, suc, ◌+◌, ◌-◌, ◌%◌, ◌^◌, ◌<◌, ◌≤◌, ℤ, pos, negsuc, ◌-ℤ◌, nat_abs, inl, inr}
+use Rattle.std.proofs.Common.{sym, refl, ap, ◌∙◌, arith, w64, SFits, to_z, of_z, le-ltb}
 use mir.ValLaws.{to_z_pos, to_z-neg, of_z-to_z}
 use Rattle.laws.specs.Orders.{lt_or_le}
 use Rattle.lattice.specs.Span.{middle, rank_of, of_rank, of_high, of_low}

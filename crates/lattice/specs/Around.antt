@@ -1,6 +1,7 @@
 -- The packer about a deepest point by its parts, as the code calls them.
 -- Rests on the laws of `Spread.antt`.
-use Rattle.std.specs.Prelude.{◌≡◌, ℕ, zero, suc, ◌+◌, ◌-◌, ◌/◌, ◌<◌, min, Bool, true, false, cond, not, ◌&&◌, ◌||◌, List, [], ◌++◌, length, take, nat_le, refl, Float, Some, None}
+use Rattle.std.specs.Prelude.{◌≡◌, ℕ, zero, suc, ◌+◌, ◌-◌, ◌/◌, ◌<◌, min, Bool, true, false, cond, not, ◌&&◌, ◌||◌}
+use Rattle.std.specs.Prelude.{List, [], ◌++◌, length, take, nat_le, refl, Float, Some, None}
 use Rattle.std.proofs.Common.{sym, ap, ◌∙◌}
 use borrow.Author.Tests.{lt-ltb, le-ltb, lt-leb, leb-true, leb-false}
 use Rattle.std.proofs.Math.Seq.{take-nil}
@@ -21,7 +22,9 @@ use Rattle.lattice.specs.declared.count.Counts.{Counts}
 use Rattle.lattice.specs.declared.rows.Field.{Field}
 
 -- ---- the choices of a packing, by the numbers at the least spacing
-module _ (piece : Piece) (c : Float) (near : List Rectangle) (n : ℕ) (field : Field) (strict : Bool) (t : Counts) (et : t ≡ counts_of (cells_of field piece c near (at n))) where
+module _
+    (piece : Piece) (c : Float) (near : List Rectangle) (n : ℕ) (field : Field) (strict : Bool) (t : Counts)
+    (et : t ≡ counts_of (cells_of field piece c near (at n))) where
   free_is : t.free ≡ length (cells_of field piece c near (at n)).free
   free_is = ap (λ (x : Counts). x.free) et
 
@@ -79,7 +82,9 @@ module _ (poi : Point) (piece : Piece) (n : ℕ) (ctx : PackCtx) (obstacles : Li
     unfolding pack_around
     around = rw box
 
-    module _ (rings : Piece) (least : Float) (near : List Rectangle) (field : Field) (ep : rings ≡ piece) (el : least ≡ inset ctx) (en : near ≡ local) (ef : field ≡ field_at poi rings ctx near rectangular extents) where
+    module _
+        (rings : Piece) (least : Float) (near : List Rectangle) (field : Field) (ep : rings ≡ piece) (el : least ≡ inset ctx) (en : near ≡ local)
+        (ef : field ≡ field_at poi rings ctx near rectangular extents) where
       pub around_is : ctx.mode.spread ≡ true → field_pack rings least near n field ctx.mode.strict_obstacles ≡ pack_around poi piece n ctx obstacles rectangular
       around_is e = rw (ef, el, en, ep) (sym (around ∙ pack_is piece n ctx local field_of box refl e))
 
@@ -89,7 +94,9 @@ module _ (poi : Point) (piece : Piece) (n : ℕ) (ctx : PackCtx) (obstacles : Li
       probe_is e f = rw (ef, el, en, ep) (sym (ap length around ∙ trial_is piece n ctx local field_of box refl e f))
 
   -- ---- without bounds no spots
-  take_none : (k : ℕ) (anchor : Point) (honoring b : Bool) → cond (honoring || b) (take n (sort_by_anchor anchor [])) (sort_by_anchor anchor [] ++ take k (sort_by_anchor anchor [])) ≡ []
+  take_none :
+      (k : ℕ) (anchor : Point) (honoring b : Bool)
+      → cond (honoring || b) (take n (sort_by_anchor anchor [])) (sort_by_anchor anchor [] ++ take k (sort_by_anchor anchor [])) ≡ []
   unfolding sort_by_anchor sort_by
   take_none k anchor true b = take-nil n
   take_none k anchor false true = take-nil n

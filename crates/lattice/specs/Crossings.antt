@@ -1,12 +1,15 @@
--- regions.rs, `point_in_polygon` at one height: where the height crosses each ring. A point of that height is inside a ring where it is left of an odd number of crossings.
+-- regions.rs, `point_in_polygon` at one height: where the height crosses each ring.
+-- A point of that height is inside a ring where it is left of an odd number of crossings.
 -- Rests on the definitions of the inside test.
-use Rattle.std.specs.Prelude.{◌≡◌, ℕ, zero, suc, ◌+◌, ◌-◌, ◌<◌, ◌≤◌, Bool, true, false, cond, not, ◌&&◌, List, [], ◌∷◌, ◌++◌, length, take, drop, nat_lt, slice_index, slice_range, slice_set, refl, Float}
+use Rattle.std.specs.Prelude.{◌≡◌, ℕ, zero, suc, ◌+◌, ◌-◌, ◌<◌, ◌≤◌, Bool, true, false, cond, not, ◌&&◌}
+use Rattle.std.specs.Prelude.{List, [], ◌∷◌, ◌++◌, length, take, drop, nat_lt, slice_index, slice_range, slice_set, refl, Float}
 use Rattle.std.proofs.Common.{sym, ap, ◌∙◌, arith, add-one, zero-add, lt-ltb, le-ltb, length-append, drop_at, length-take-le}
 use Rattle.std.specs.Bool.{beq}
 use mathlib.Core.List.{foldl, append_assoc, append-nil}
 use Rattle.std.proofs.Math.Nat.{add-sub_cancel_left}
 use Rattle.std.proofs.Math.Seq.{take_all, take-suc-set, take-append_seam}
 use Rattle.float.specs.Ops.{◌+ᶠ◌, ◌-ᶠ◌, ◌*ᶠ◌, ◌/ᶠ◌, ◌<ᶠ◌, ◌>ᶠ◌, ε}
+use Rattle.glyphs.specs.declared.rect.Point.{Point}
 use Rattle.glyphs.specs.Points.{Ring, vertices, x_at, y_at}
 use Rattle.regions.specs.declared.piece.RegionPiece.{RegionPiece}
 use Rattle.regions.specs.Pieces.{rings_of}
@@ -200,10 +203,10 @@ ends_ascend y (ring ∷ rings) from most h =
     (omega arith, ends_ascend y rings (from + length (crossings_of y ring)) most (omega arith))
 
 -- a piece has as many rings as sizes, and there is an end for each
-pub length_rings : (a : ℕ) (sizes : List ℕ) (coords : List Float) → length (rings_from a sizes coords) ≡ length sizes
+pub length_rings : (a : ℕ) (sizes : List ℕ) (points : List Point) → length (rings_from a sizes points) ≡ length sizes
 unfolding rings_from
-length_rings a [] coords = refl
-length_rings a (n ∷ sizes) coords = ap suc (length_rings (a + n) sizes coords)
+length_rings a [] points = refl
+length_rings a (n ∷ sizes) points = ap suc (length_rings (a + n) sizes points)
 
 length_ends : (y : Float) (c : ℕ) (rings : List Ring) → length (ends_of y c rings) ≡ length rings
 unfolding ends_of
@@ -224,7 +227,7 @@ crossed_all y piece ring rings e =
     let whole : take (length ends) ends ≡ ends = take_all (length ends) ends (omega arith) in
     record {
       ends_are = record { some = ends_some y ring rings; ascend = ends_ascend y (ring ∷ rings) 0 (length all) (omega arith) };
-      each = length_ends y 0 (ring ∷ rings) ∙ ap length e ∙ length_rings 0 piece.sizes.now piece.coords.now;
+      each = length_ends y 0 (ring ∷ rings) ∙ ap length e ∙ length_rings 0 piece.sizes.now piece.points.now;
       inside = λ (x : Float).
           ap (λ (l : List Float). inside_level x l ends) (sym (append-nil all))
           ∙ ap (inside_level x (all ++ [])) (sym whole)
@@ -237,10 +240,10 @@ pub crossed :
     → ends_of y 0 (rings_of piece) ≡ ends → Crossed y piece crossings ends
 crossed y piece crossings ends e f =
     let sizes = piece.sizes.now in
-    let coords = piece.coords.now in
-    let p = first_ring sizes coords piece.outer_ring in
+    let points = piece.points.now in
+    let p = first_ring sizes points piece.outer_ring in
     rw (sym e ∙ ap (crossings_of_all y) p, sym f ∙ ap (ends_of y 0) p)
-    (crossed_all y piece (part coords 0 (slice_index sizes 0)) (rings_from (slice_index sizes 0) (drop 1 sizes) coords) (sym p))
+    (crossed_all y piece (part points 0 (slice_index sizes 0)) (rings_from (slice_index sizes 0) (drop 1 sizes) points) (sym p))
 
 -- how many there are then
 pub counted :

@@ -20,7 +20,7 @@ use Rattle.float.specs.Laws.Zero.{origin, origin_is}
 use Rattle.float.specs.Laws.Compare.{le_trans, lt_le, lt_not_le, not_lt_le, lt_le_trans, le_lt_trans}
 use Rattle.float.specs.Laws.Square.{Square, times_self, plus}
 use Rattle.float.specs.Laws.Monotone.{root_of_mono}
-use Rattle.glyphs.specs.Points.{Ring, vertices, x_at, y_at}
+use Rattle.glyphs.specs.Points.{Ring, vertices, vertex_at}
 use Rattle.regions.specs.Ring.{Piece, next}
 use Rattle.regions.specs.Clearance.{edge_square, dist_at, closer, best_after, best_of_ring, min_dist_to_rings}
 use Rattle.regions.specs.Margin.{low_square, high_square, high_square_lem}
@@ -40,8 +40,7 @@ NearEdges y c piece edges = (x : Float) → keeps_edges x y c edges ≡ (c ≤�
 
 -- ---- a ring's edges
 abbrev pub edge_at : Ring → ℕ → ℕ → Edge
-edge_at ring n i =
-    record { from = record { x = x_at ring i; y = y_at ring i }; to = record { x = x_at ring (next n i); y = y_at ring (next n i) } }
+edge_at ring n i = record { from = vertex_at ring i; to = vertex_at ring (next n i) }
 
 unfoldable pub keeps_after : Float → Float → Float → Ring → ℕ → ℕ → Bool
 keeps_after x y c ring n zero = true

@@ -7,6 +7,7 @@ use Rattle.float.specs.Total.{total_cmp}
 use Rattle.glyphs.specs.declared.rect.Point.{Point}
 use Rattle.glyphs.specs.declared.rect.Rectangle.{Rectangle}
 use Rattle.glyphs.specs.Rect.{clear_of_obstacles}
+use Rattle.glyphs.specs.Spots.{squared_distance}
 use Rattle.regions.specs.Ring.{Piece}
 use Rattle.regions.specs.Clearance.{signed_clearance}
 use Rattle.lattice.specs.declared.escape.Exit.{Exit}
@@ -14,10 +15,6 @@ use Rattle.lattice.specs.declared.escape.Exit.{Exit}
 -- (x, y)
 abbrev pub point : Float → Float → Point
 point x y = record { x = x; y = y }
-
--- (a.x() - b.x()).powi(2) + (a.y() - b.y()).powi(2)
-abbrev pub squared_distance : Point → Point → Float
-squared_distance a b = (a.x -ᶠ b.x) *ᶠ (a.x -ᶠ b.x) +ᶠ (a.y -ᶠ b.y) *ᶠ (a.y -ᶠ b.y)
 
 -- 1e-9
 abbrev pub 1e-9ᶠ : Float

@@ -137,7 +137,8 @@ module _ (c v reach a b t : Float) (R : Reaches c v reach) (B : Beyond v reach a
   part =
       let r = mul_of_finite t d P.sized.num d_sized.num p_sized.num.fine in
       part_of (sgn t) (sgn d) (sgn (t *ᶠ d)) (mag t) (mag d) (mag (t *ᶠ d)) r.sign P.nonneg
-      (λ (z : mag t ≡ 0). none (r.most 0 digits_zero (rw z (omega arith)))) (r.most (mag d) (digits d d_sized.num) (omega (arith, mul-le-mul_right (mag d) P.sized.size)))
+      (λ (z : mag t ≡ 0). none (r.most 0 digits_zero (rw z (omega arith))))
+      (r.most (mag d) (digits d d_sized.num) (omega (arith, mul-le-mul_right (mag d) P.sized.size)))
     where
       none : mag (t *ᶠ d) ≤ 0 → mag (t *ᶠ d) ≡ 0
       none h = omega arith
@@ -147,22 +148,29 @@ module _ (c v reach a b t : Float) (R : Reaches c v reach) (B : Beyond v reach a
   between_ends =
       let s = add_of_finite a (t *ᶠ d) B.from.num p_sized.num q_sized.num.fine in
       let own = digits a B.from.num in
+      let b = B.from.num in
+      let u = p_sized.num in
+      let w = d_sized.num in
+      let f = q_sized.num.fine in
+      let g = top_sized.num.fine in
       elim part [
-        | inl h ↦
-            inl (s.least (sgn a) (mag a) own (omega (arith, h.0)), add_mono a (t *ᶠ d) a d B.from.num p_sized.num B.from.num d_sized.num q_sized.num.fine top_sized.num.fine (omega (arith, h.1)))
-        | inr h ↦
-            inr (add_mono a d a (t *ᶠ d) B.from.num d_sized.num B.from.num p_sized.num top_sized.num.fine q_sized.num.fine (omega (arith, h.0)), s.most (sgn a) (mag a) own (omega (arith, h.1)))
+        | inl h ↦ inl (s.least (sgn a) (mag a) own (omega (arith, h.0)), add_mono a (t *ᶠ d) a d b u b w f g (omega (arith, h.1)))
+        | inr h ↦ inr (add_mono a d a (t *ᶠ d) b w b u g f (omega (arith, h.0)), s.most (sgn a) (mag a) own (omega (arith, h.1)))
       ]
 
   -- and so its distance from the place between theirs
   between_gaps : ((val (v -ᶠ top) ≼ val e) × (val e ≼ val (v -ᶠ a))) ⊎ ((val (v -ᶠ a) ≼ val e) × (val e ≼ val (v -ᶠ top)))
   between_gaps =
       let n = R.place.num in
+      let b = B.from.num in
+      let u = top_sized.num in
+      let w = q_sized.num in
+      let f = here_sized.num.fine in
+      let g = there_sized.num.fine in
+      let k = e_sized.num.fine in
       elim between_ends [
-        | inl h ↦
-            inl (sub_mono v top v q n top_sized.num n q_sized.num there_sized.num.fine e_sized.num.fine (omega (arith, h.1)), sub_mono v q v a n q_sized.num n B.from.num e_sized.num.fine here_sized.num.fine (omega (arith, h.0)))
-        | inr h ↦
-            inr (sub_mono v a v q n B.from.num n q_sized.num here_sized.num.fine e_sized.num.fine (omega (arith, h.1)), sub_mono v q v top n q_sized.num n top_sized.num e_sized.num.fine there_sized.num.fine (omega (arith, h.0)))
+        | inl h ↦ inl (sub_mono v top v q n u n w g k (omega (arith, h.1)), sub_mono v q v a n w n b k f (omega (arith, h.0)))
+        | inr h ↦ inr (sub_mono v a v q n b n w f k (omega (arith, h.1)), sub_mono v q v top n w n u k g (omega (arith, h.0)))
       ]
 
   reach_nonneg : Nonneg reach
@@ -174,7 +182,8 @@ module _ (c v reach a b t : Float) (R : Reaches c v reach) (B : Beyond v reach a
         | inl h ↦
             let i = le→≼ reach (v -ᶠ a) R.sized.num here_sized.num h.0 in
             let j = le→≼ reach (v -ᶠ top) R.sized.num there_sized.num h.1 in
-            size_above (sgn reach) (sgn e) (mag reach) (mag e) reach_nonneg (elim between_gaps [ inl g ↦ omega (arith, j, g.0) | inr g ↦ omega (arith, i, g.0) ])
+            size_above (sgn reach) (sgn e) (mag reach) (mag e) reach_nonneg
+            (elim between_gaps [ inl g ↦ omega (arith, j, g.0) | inr g ↦ omega (arith, i, g.0) ])
         | inr h ↦
             let n = neg_num reach R.sized.num in
             let i = le→≼ (v -ᶠ a) (neg reach) here_sized.num n h.0 in
@@ -182,7 +191,8 @@ module _ (c v reach a b t : Float) (R : Reaches c v reach) (B : Beyond v reach a
             let k = neg_val reach R.sized.num in
             let kp : (val (neg reach)).p ≡ (val reach).n = ap (λ (z : Exact). z.p) k in
             let kn : (val (neg reach)).n ≡ (val reach).p = ap (λ (z : Exact). z.n) k in
-            size_below (sgn reach) (sgn e) (mag reach) (mag e) reach_nonneg (elim between_gaps [ inl g ↦ omega (arith, i, g.1) | inr g ↦ omega (arith, j, g.1) ])
+            size_below (sgn reach) (sgn e) (mag reach) (mag e) reach_nonneg
+            (elim between_gaps [ inl g ↦ omega (arith, i, g.1) | inr g ↦ omega (arith, j, g.1) ])
       ]
 
   square_far : T (high_square c ≤ᶠ e *ᶠ e)
@@ -267,5 +277,7 @@ module _ (c x y ax ay bx by reach : Float) (s : Sure c y reach) (b : Beyond y re
       kept c _
       (elim (along_part ((x -ᶠ ax) *ᶠ (bx -ᶠ ax) +ᶠ (y -ᶠ ay) *ᶠ (by -ᶠ ay)) ((bx -ᶠ ax) *ᶠ (bx -ᶠ ax) +ᶠ (by -ᶠ ay) *ᶠ (by -ᶠ ay))) [
         | inl e ↦ inl (lost _ _ e)
-        | inr p ↦ added (high_square c) _ (square_sized c y reach ay by _ sure b p).num (square_nonneg c y reach ay by _ sure b p) (square_far c y reach ay by _ sure b p) _ (times_self _)
+        | inr p ↦
+            added (high_square c) _ (square_sized c y reach ay by _ sure b p).num (square_nonneg c y reach ay by _ sure b p)
+            (square_far c y reach ay by _ sure b p) _ (times_self _)
       ])

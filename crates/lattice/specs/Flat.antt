@@ -1,14 +1,16 @@
 -- Points in a slice, x and y in turn: what a slice holds, what it holds once points are written, and one put among them.
 -- Rests on the kit's laws of lists.
-use Rattle.std.specs.Prelude.{◌≡◌, ℕ, zero, suc, ◌+◌, ◌-◌, ◌*◌, ◌<◌, ◌≤◌, min, List, [], ◌∷◌, ◌++◌, length, get_or, take, drop, set, slice_index_or, slice_range, slice_set, refl, Float}
-use Rattle.std.proofs.Common.{sym, ap, ◌∙◌, append_assoc, arith, length-append, length-take, length-drop, take-append-drop, take_all, take-suc, drop-cons, get_or-take, length-take-le}
+use Rattle.std.specs.Prelude.{◌≡◌, ℕ, zero, suc, ◌+◌, ◌-◌, ◌*◌, ◌/◌, ◌<◌, ◌≤◌, min, List, [], ◌∷◌, ◌++◌, length}
+use Rattle.std.specs.Prelude.{get_or, take, drop, set, slice_index_or, slice_range, slice_set, refl, Float}
+use Rattle.std.proofs.Common.{sym, ap, ◌∙◌, append_assoc, arith, length-append, length-take, length-drop, length-take-le}
+use Rattle.std.proofs.Common.{take-append-drop, take_all, take-suc, drop-cons, get_or-take}
 use Rattle.std.proofs.Math.ListN.{get_or-append}
 use Rattle.std.proofs.lemmas.List.{set_at}
 use Rattle.std.proofs.Math.Seq.{take-append-add, take-append_seam}
 use Rattle.std.specs.Float.{nan}
 use Rattle.laws.specs.Lists.{written}
 use Rattle.glyphs.specs.declared.rect.Point.{Point}
-use Rattle.glyphs.specs.Spots.{spot_at, put_spot, flat, length_flat}
+use Rattle.glyphs.specs.Spots.{spot_at, put_spot, spots_of, flat, length_flat}
 use Rattle.lattice.specs.Escape.{point}
 
 -- the first m points of a slice
@@ -85,6 +87,23 @@ take_points (suc k) (suc m) [] h = refl
 take_points (suc k) (suc m) (x ∷ []) h = refl
 take_points (suc k) (suc m) (x ∷ y ∷ l) h = ap (λ (t : List Point). point x y ∷ t) (take_points k m l (omega arith))
 
+-- the points of a slice that begins with them, and of one that has no others
+pub spots_front : (m : ℕ) (l : List Float) → spots_of (take (m * 2) l) ≡ points m l
+unfolding spots_of points
+spots_front zero l = refl
+spots_front (suc m) [] = rw (twice m) refl
+spots_front (suc m) (x ∷ []) = rw (twice m) refl
+spots_front (suc m) (x ∷ y ∷ l) = rw (twice m) (ap (λ (t : List Point). point x y ∷ t) (spots_front m l))
+
+pub spots_points : (l : List Float) → spots_of l ≡ points (length l / 2) l
+unfolding spots_of points
+spots_points [] = refl
+spots_points (x ∷ []) = refl
+spots_points (x ∷ y ∷ l) = let e : suc (suc (length l)) / 2 ≡ suc (length l / 2) = omega arith in rw e (ap (λ (t : List Point). point x y ∷ t) (spots_points l))
+
+pub front_number : (m : ℕ) (l : List Float) → m * 2 ≤ length l → length (take (m * 2) l) / 2 ≡ m
+front_number m l h = let n = length-take-le (m * 2) l h in omega arith
+
 drop_points : (k m : ℕ) (l : List Float) → k ≤ m → m * 2 ≤ length l → drop k (points m l) ≡ points (m - k) (drop (k * 2) l)
 unfolding points
 drop_points zero m l h g = let e : m - 0 ≡ m = omega arith in rw e
@@ -126,7 +145,9 @@ moved_at l i j b h g k =
     get_or-append (take (i + 2) l) _ nan j (simp length-take (omega arith)) ∙ get_or-take (i + 2) l j nan (omega arith)
 
 -- a turn of the loop that moves the floats, from the last down
-pub moved_next : (l : List Float) (i b : ℕ) → 0 < i → i ≤ b → b + 2 ≤ length l → slice_set (moved l i b) (i + 1) (slice_index_or l (i - 1) nan) ≡ moved l (i - 1) b
+pub moved_next :
+    (l : List Float) (i b : ℕ) → 0 < i → i ≤ b → b + 2 ≤ length l
+    → slice_set (moved l i b) (i + 1) (slice_index_or l (i - 1) nan) ≡ moved l (i - 1) b
 moved_next l zero b h g k = absurd (omega arith)
 moved_next l (suc j) b h g k =
     let rest = take (b - suc j) (drop (suc j) l) ++ drop (b + 2) l in

@@ -53,20 +53,25 @@ module _ (piece : Piece) (min-clearance : Float) (near : List Rectangle) (anchor
   gather cells ps = foldl gather_cell cells ps
 
   -- ---- the definition's cells
-  module _ (cells : HexCells) (p : Point) (ps : List Point) (later : (found : HexCells) → kept anchor nf nb (judge piece min-clearance near never found ps) ≡ gather (kept anchor nf nb found) ps) where
+  module _
+      (cells : HexCells) (p : Point) (ps : List Point)
+      (later : (found : HexCells) → kept anchor nf nb (judge piece min-clearance near never found ps) ≡ gather (kept anchor nf nb found) ps) where
     abbrev freed : HexCells
     freed = record { free = cells.free ++ p ∷ []; blocked = cells.blocked }
 
     abbrev walled : HexCells
     walled = record { free = cells.free; blocked = cells.blocked ++ p ∷ [] }
 
-    next_of : (n : ℕ) (l : List Point) → take n (sort_by_anchor anchor (l ++ p ∷ [])) ≡ take n (insert_behind (by_anchor anchor) p (take n (sort_by_anchor anchor l)))
+    next_of :
+        (n : ℕ) (l : List Point)
+        → take n (sort_by_anchor anchor (l ++ p ∷ [])) ≡ take n (insert_behind (by_anchor anchor) p (take n (sort_by_anchor anchor l)))
     unfolding sort_by_anchor
     next_of n l = first_next (by_anchor anchor) (linear_by anchor) n l p
 
     judged :
         (a b : Bool)
-        → kept anchor nf nb (cond a (cond b (judge piece min-clearance near never freed ps) (judge piece min-clearance near never walled ps)) (judge piece min-clearance near never cells ps))
+        → let all = λ (found : HexCells). judge piece min-clearance near never found ps in
+        kept anchor nf nb (cond a (cond b (all freed) (all walled)) (all cells))
         ≡ gather (cond a (cond b (with_free (kept anchor nf nb cells) p) (with_blocked (kept anchor nf nb cells) p)) (kept anchor nf nb cells)) ps
     judged true true =
         later freed ∙ ap (λ (t : List Point). gather (record { free = t; blocked = take nb (sort_by_anchor anchor cells.blocked) }) ps) (next_of nf cells.free)
@@ -74,7 +79,8 @@ module _ (piece : Piece) (min-clearance : Float) (near : List Rectangle) (anchor
         later walled ∙ ap (λ (t : List Point). gather (record { free = take nf (sort_by_anchor anchor cells.free); blocked = t }) ps) (next_of nb cells.blocked)
     judged false b = later cells
 
-  pub kept_judged : (cells : HexCells) (ps : List Point) → kept anchor nf nb (judge piece min-clearance near never cells ps) ≡ gather (kept anchor nf nb cells) ps
+  pub kept_judged :
+      (cells : HexCells) (ps : List Point) → kept anchor nf nb (judge piece min-clearance near never cells ps) ≡ gather (kept anchor nf nb cells) ps
   unfolding judge gather_cell
   kept_judged cells [] = refl
   kept_judged cells (p ∷ ps) =
@@ -87,8 +93,9 @@ module _ (piece : Piece) (min-clearance : Float) (near : List Rectangle) (anchor
       → let r = take n (insert_behind (by_anchor anchor) p l) in
       (length r ≤ n) × Ascending (by_anchor anchor) r × (length l ≤ length r)
   insert_fit n p l h a =
-      let e : length (take n (insert_behind (by_anchor anchor) p l)) ≡ min n (suc (length l)) = length-take n (insert_behind (by_anchor anchor) p l) ∙ ap (min n) (length_behind (by_anchor anchor) p l) in
-      (omega arith, take_ascending (by_anchor anchor) n (insert_behind (by_anchor anchor) p l) (behind_ascending (by_anchor anchor) (linear_by anchor) p l a), omega arith)
+      let more = insert_behind (by_anchor anchor) p l in
+      let e : length (take n more) ≡ min n (suc (length l)) = length-take n more ∙ ap (min n) (length_behind (by_anchor anchor) p l) in
+      (omega arith, take_ascending (by_anchor anchor) n more (behind_ascending (by_anchor anchor) (linear_by anchor) p l a), omega arith)
 
   cell_fits :
       (a b : Bool) (cells : HexCells) (p : Point) → Fit anchor nf nb cells

@@ -127,18 +127,26 @@ module _ (anchor : Point) (nf nb : ℕ) (t : Gathered) (f b g : List Float) (w :
         signed_clearance p.x p.y piece ≥ᶠ c ≡ true → clear_of_obstacles p.x p.y near c ≡ true
         → (r : Free) (f' g' : List Float) → Line anchor nf r f' g'
         → lined anchor nf r f' g' ≡ take nf (insert_behind (by_anchor anchor) p (lined anchor nf t.free f g)) → Onward t.free r f f'
-        → Gathers anchor nf nb (gather_cell piece c near anchor nf nb (gathered_in anchor nf t f b g) p) t (record { free = r; blocked = t.blocked }) f' b g' f b
+        → Gathers anchor nf nb (gather_cell piece c near anchor nf nb (gathered_in anchor nf t f b g) p)
+        t (record { free = r; blocked = t.blocked }) f' b g' f b
     unfolding gather_cell
     gathers_free e k r f' g' l q o =
         let n : length (points r.kept f') ≡ r.kept = length_points r.kept f' (omega (arith, l.kept_le, l.room)) in
         let d : r.kept ≡ length (points r.kept f') = sym n in
         let m = blocked_number in
-        let number : ◌≡◌ {A = Counts} (record { free = r.kept; blocked = t.blocked }) (record { free = length (points r.kept f'); blocked = length (points t.blocked b) }) = cc in
+        let number :
+        ◌≡◌ {A = Counts} (record { free = r.kept; blocked = t.blocked })
+        (record { free = length (points r.kept f'); blocked = length (points t.blocked b) }) = cc in
         rw (e, k) (record {
           waits = record {
             ready = record {
               counts = number;
-              fit = record { free_fits = omega (arith, l.kept_le); blocked_fits = w.ready.fit.blocked_fits; free_order = l.order; blocked_order = w.ready.fit.blocked_order };
+              fit = record {
+                free_fits = omega (arith, l.kept_le);
+                blocked_fits = w.ready.fit.blocked_fits;
+                free_order = l.order;
+                blocked_order = w.ready.fit.blocked_order;
+              };
               free_room = l.room;
               blocked_room = w.ready.blocked_room;
             };

@@ -108,10 +108,17 @@ module _ (anchor : Point) (nf nb : ℕ) (t : Counts) (f b : List Float) (r : Rea
       → (held_in t' f' b' ≡ cells) × Ready anchor nf nb t' f' b' × Holds (held_in t' f' b') t' f' b' f₀ b₀ × (length f' ≡ length f) × (length b' ≡ length b)
   turn f₀ b₀ h cells g t' f' b' k =
       let e = holds_read cells t' f' b' f b k in
-      let n : length f' ≡ length f = ap length k.free_is ∙ length_written (flat cells.free) f (omega (arith, length_flat cells.free, g.0.free_fits, r.free_room)) in
-      let m : length b' ≡ length b = ap length k.blocked_is ∙ length_written (flat cells.blocked) b (omega (arith, length_flat cells.blocked, g.0.blocked_fits, r.blocked_room)) in (
+      let n : length f' ≡ length f =
+      ap length k.free_is ∙ length_written (flat cells.free) f (omega (arith, length_flat cells.free, g.0.free_fits, r.free_room)) in
+      let m : length b' ≡ length b =
+      ap length k.blocked_is ∙ length_written (flat cells.blocked) b (omega (arith, length_flat cells.blocked, g.0.blocked_fits, r.blocked_room)) in (
         e,
-        record { counts = k.counts ∙ ap counts_of (sym e); fit = subst (λ (x : HexCells). Fit anchor nf nb x) (sym e) g.0; free_room = omega (arith, r.free_room); blocked_room = omega (arith, r.blocked_room) },
+        record {
+          counts = k.counts ∙ ap counts_of (sym e);
+          fit = subst (λ (x : HexCells). Fit anchor nf nb x) (sym e) g.0;
+          free_room = omega (arith, r.free_room);
+          blocked_room = omega (arith, r.blocked_room);
+        },
         subst (λ (x : HexCells). Holds x t' f' b' f₀ b₀) (sym e) (record {
           counts = k.counts;
           free_is = k.free_is ∙ ap (written (flat cells.free)) h.free_is ∙ over_flat (points t.free f) cells.free f₀ g.1.0;
@@ -122,9 +129,12 @@ module _ (anchor : Point) (nf nb : ℕ) (t : Counts) (f b : List Float) (r : Rea
       )
 
   -- ---- one cell
-  kept_number : (n : ℕ) (p : Point) (ps : List Point) (m k : ℕ) → m ≡ length ps → k ≡ min (suc m) n → k ≡ length (take n (insert_behind (by_anchor anchor) p ps))
+  kept_number :
+      (n : ℕ) (p : Point) (ps : List Point) (m k : ℕ) → m ≡ length ps → k ≡ min (suc m) n
+      → k ≡ length (take n (insert_behind (by_anchor anchor) p ps))
   kept_number n p ps m k e g =
-      let i : length (take n (insert_behind (by_anchor anchor) p ps)) ≡ min n (suc (length ps)) = length-take n (insert_behind (by_anchor anchor) p ps) ∙ ap (min n) (length_behind (by_anchor anchor) p ps) in
+      let more = insert_behind (by_anchor anchor) p ps in
+      let i : length (take n more) ≡ min n (suc (length ps)) = length-take n more ∙ ap (min n) (length_behind (by_anchor anchor) p ps) in
       omega arith
 
   module _ (piece : Piece) (c : Float) (near : List Rectangle) (p : Point) where
@@ -134,6 +144,7 @@ module _ (anchor : Point) (nf nb : ℕ) (t : Counts) (f b : List Float) (r : Rea
         → Holds (gather_cell piece c near anchor nf nb (held_in t f b) p) (record { free = t.free; blocked = k }) f b' f b
     unfolding gather_cell
     holds_blocked e g k n b' h =
-        let i : k ≡ length (take nb (insert_behind (by_anchor anchor) p (points t.blocked b))) = kept_number nb p (points t.blocked b) t.blocked k blocked_number n in
+        let i : k ≡ length (take nb (insert_behind (by_anchor anchor) p (points t.blocked b))) =
+        kept_number nb p (points t.blocked b) t.blocked k blocked_number n in
         let j = free_number in
         rw (e, g) (record { counts = cc; free_is = same_free; blocked_is = h })

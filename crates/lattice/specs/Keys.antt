@@ -8,7 +8,7 @@ use Prim.Native.Nat.{compare, Ordering}
 use Rattle.laws.specs.Orders.{◌then_by◌, is_lt, Linear, lt_differs, lt_same, lt_only, compared, linear_compare, linear_on, linear_then}
 use Rattle.float.specs.Total.{total_key, total_cmp, total_less}
 use Rattle.glyphs.specs.declared.rect.Point.{Point}
-use Rattle.lattice.specs.Escape.{squared_distance}
+use Rattle.glyphs.specs.Spots.{squared_distance}
 use Rattle.lattice.specs.Lattice.{by_anchor}
 
 -- an answer of the library's comparisons, among the definitions' answers

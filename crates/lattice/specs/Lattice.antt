@@ -1,5 +1,6 @@
 -- discs.rs, `lattice_valid_cells`, `sort_by_anchor` and `take_cells`. Definitions only.
-use Rattle.std.specs.Prelude.{ℕ, suc, ◌-◌, ◌%◌, Bool, false, cond, not, ◌&&◌, ◌||◌, List, [], ◌∷◌, ◌++◌, map, length, take, ℤ, pos, negsuc, ◌+ℤ◌, ◌-ℤ◌, ◌==◌, nat_le, Float, Option, Some, None}
+use Rattle.std.specs.Prelude.{ℕ, suc, ◌-◌, ◌%◌, Bool, false, cond, not, ◌&&◌, ◌||◌}
+use Rattle.std.specs.Prelude.{List, [], ◌∷◌, ◌++◌, map, length, take, ℤ, pos, negsuc, ◌+ℤ◌, ◌-ℤ◌, ◌==◌, nat_le, Float, Option, Some, None}
 use mathlib.Core.List.{foldr}
 use Prim.Native.Nat.{Ordering}
 use Rattle.std.specs.Float.{binary64}
@@ -18,7 +19,8 @@ use Rattle.glyphs.specs.Bounds.{ring_bounds}
 use Rattle.glyphs.specs.Rect.{clear_of_obstacles, is_finite}
 use Rattle.regions.specs.Ring.{Piece, outer}
 use Rattle.regions.specs.Clearance.{signed_clearance}
-use Rattle.lattice.specs.Escape.{point, squared_distance}
+use Rattle.glyphs.specs.Spots.{squared_distance}
+use Rattle.lattice.specs.Escape.{point}
 use Rattle.lattice.specs.declared.context.Lattice.{Lattice}
 
 -- ---- whole numbers

@@ -177,7 +177,9 @@ module _ {A : Type 0} (cmp : A → A → Ordering) where
     inserted_sorted xs ps a = ap (λ (t : List A). inserted t ps) (sym (sort_same xs a)) ∙ sorted_inserted xs ps
 
     -- one more among those that come, in order
-    pub inserted_more : (xs ps : List A) (p : A) → Ascending cmp xs → Ascending cmp ps → inserted xs (insert_behind cmp p ps) ≡ insert_behind cmp p (inserted xs ps)
+    pub inserted_more :
+        (xs ps : List A) (p : A) → Ascending cmp xs → Ascending cmp ps
+        → inserted xs (insert_behind cmp p ps) ≡ insert_behind cmp p (inserted xs ps)
     inserted_more xs ps p a b =
         inserted_sorted xs (insert_behind cmp p ps) a
         ∙ ap (λ (t : List A). sort_by cmp (xs ++ t)) (ap (insert_behind cmp p) (sym (sort_same ps b)) ∙ sym (sort_last cmp l ps p))
@@ -186,5 +188,7 @@ module _ {A : Type 0} (cmp : A → A → Ordering) where
         ∙ inserted_next xs ps p
 
     -- and only the first n of all are kept
-    pub kept_more : (n : ℕ) (xs ps : List A) (p : A) → Ascending cmp xs → Ascending cmp ps → take n (inserted xs (insert_behind cmp p ps)) ≡ take n (insert_behind cmp p (take n (inserted xs ps)))
+    pub kept_more :
+        (n : ℕ) (xs ps : List A) (p : A) → Ascending cmp xs → Ascending cmp ps
+        → take n (inserted xs (insert_behind cmp p ps)) ≡ take n (insert_behind cmp p (take n (inserted xs ps)))
     kept_more n xs ps p a b = ap (take n) (inserted_more xs ps p a b) ∙ take_behind cmp n p (inserted xs ps)

@@ -1,16 +1,11 @@
 -- The obstacles near a piece, found one after another: those found so far, and those of what is left.
 -- Rests on the law of a list filtered in turn.
-use Rattle.std.specs.Prelude.{◌≡◌, ℕ, ◌+◌, ◌<◌, ◌≤◌, Bool, true, false, cond, List, [], ◌∷◌, ◌++◌, length, drop, take, get_or, set}
-use Rattle.std.proofs.Common.{sym, ap, ◌∙◌, add-one, append_assoc, append-nil, take-suc-set}
+use Rattle.std.specs.Prelude.{◌≡◌, ℕ, ◌+◌, ◌<◌, ◌≤◌, Bool, true, false, List, [], ◌∷◌, ◌++◌, length, drop, take, get_or, set}
+use Rattle.std.proofs.Common.{◌∙◌, add-one, append-nil, take-suc-set}
 use Rattle.std.proofs.lemmas.List.{drop_more}
 use Rattle.std.proofs.Math.ListN.{drop_of_length-le}
 use Rattle.glyphs.specs.declared.rect.Rectangle.{Rectangle}
 use Rattle.glyphs.specs.Rect.{filter, filter_turn}
-
--- a rectangle is kept or not
-pub joined : (b : Bool) (rect : Rectangle) (xs ys : List Rectangle) → xs ++ cond b (rect ∷ ys) ys ≡ (xs ++ cond b (rect ∷ []) []) ++ ys
-joined true rect xs ys = sym (append_assoc xs (rect ∷ []) ys)
-joined false rect xs ys = sym (ap (λ (t : List Rectangle). t ++ ys) (append-nil xs))
 
 module _ (f : Rectangle → Bool) (obstacles : List Rectangle) (i : ℕ) (xs : List Rectangle) where
   -- one more is kept, or left out

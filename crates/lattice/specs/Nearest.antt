@@ -9,7 +9,9 @@ use Rattle.glyphs.specs.declared.rect.Point.{Point}
 use Rattle.glyphs.specs.Spots.{flat}
 use Rattle.lattice.specs.Flat.{points, moved, length_points, put_among, written_same, capped, full}
 
-module _ (cmp : Point → Point → Ordering) (l : List Float) (m cap k : ℕ) (p : Point) (h : m ≤ cap) (room : cap * 2 ≤ length l) (at : k ≡ lead cmp p (points m l)) where
+module _
+    (cmp : Point → Point → Ordering) (l : List Float) (m cap k : ℕ) (p : Point) (h : m ≤ cap) (room : cap * 2 ≤ length l)
+    (at : k ≡ lead cmp p (points m l)) where
   held : length (points m l) ≡ m
   held = length_points m l (omega arith)
 

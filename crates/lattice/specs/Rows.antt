@@ -1,5 +1,6 @@
 -- The rows of a walk by rank, as the code takes them: a row, its cells one after another, and all rows.
-use Rattle.std.specs.Prelude.{◌≡◌, ℕ, zero, suc, ◌+◌, ◌-◌, ◌<◌, ◌≤◌, min, Bool, true, false, cond, not, ◌||◌, List, [], ◌∷◌, ◌++◌, map, length, take, ℤ, refl, Float}
+use Rattle.std.specs.Prelude.{◌≡◌, ℕ, zero, suc, ◌+◌, ◌-◌, ◌<◌, ◌≤◌, min, Bool, true, false, cond, not, ◌||◌}
+use Rattle.std.specs.Prelude.{List, [], ◌∷◌, ◌++◌, map, length, take, ℤ, refl, Float}
 use Rattle.std.proofs.Common.{sym, ap, ◌∙◌, arith, length-take}
 use mathlib.Core.List.{foldr}
 use Rattle.std.proofs.Math.Seq.{take-nil}
@@ -161,7 +162,8 @@ row_cells_lem field u =
 
 rows_are :
     (field : Field) (u n : ℕ)
-    → foldr (λ (j : ℤ) (later : List Point). row_cells field.lattice field.anchor field.extents.min_x field.extents.max_x j ++ later) [] (map of_rank (span u n))
+    → foldr (λ (j : ℤ) (later : List Point). row_cells field.lattice field.anchor field.extents.min_x field.extents.max_x j ++ later) []
+    (map of_rank (span u n))
     ≡ rows_from field (row_height field.lattice) u n
 unfolding span rows_from
 rows_are field u zero = refl

@@ -1,8 +1,11 @@
--- A short run of cells in order merged into the cells that a slice keeps in order, from the back: what is placed at each turn, and what the slice holds in the end.
+-- A short run of cells in order merged into the cells that a slice keeps in order, from the back: what is placed at each turn,
+-- and what the slice holds in the end.
 -- Rests on the laws of which element is the last, and of points in a slice.
-use Rattle.std.specs.Prelude.{◌≡◌, ℕ, zero, suc, ◌+◌, ◌-◌, ◌*◌, ◌<◌, ◌≤◌, min, Bool, true, false, cond, ◌≢◌, List, [], ◌∷◌, ◌++◌, length, get_or, take, drop, nat_lt, slice_index_or, slice_set, refl, Float}
+use Rattle.std.specs.Prelude.{◌≡◌, ℕ, zero, suc, ◌+◌, ◌-◌, ◌*◌, ◌<◌, ◌≤◌, min, Bool, true, false, cond, ◌≢◌}
+use Rattle.std.specs.Prelude.{List, [], ◌∷◌, ◌++◌, length, get_or, take, drop, nat_lt, slice_index_or, slice_set, refl, Float}
 use Rattle.std.proofs.Math.Path.{sym, ap}
-use Rattle.std.proofs.Common.{◌∙◌, subst, ⊎_elim, lt-ltb, le-ltb, length-take, length-set, take-append-drop, take_at, drop_at, take-take, take-suc, drop-cons, drop-set-lt, get_or-take, get_or-set_same, get_or-set_other}
+use Rattle.std.proofs.Common.{◌∙◌, subst, ⊎_elim, lt-ltb, le-ltb, length-take, length-set, take-append-drop, take_at, drop_at, take-take, take-suc}
+use Rattle.std.proofs.Common.{drop-cons, drop-set-lt, get_or-take, get_or-set_same, get_or-set_other}
 use native.Mathlib.Omega.{arith}
 use Rattle.std.proofs.Math.Seq.{take_all}
 use Rattle.std.proofs.lemmas.List.{take-append-le, take-set-le, get_or_at}
@@ -48,9 +51,13 @@ points_next i l h =
 same_point : (i n : ℕ) (l l₀ : List Float) → i < n → take (n * 2) l ≡ take (n * 2) l₀ → point_at l i ≡ point_at l₀ i
 same_point i n l l₀ h e =
     let x : get_or l (i * 2) nan ≡ get_or l₀ (i * 2) nan =
-    sym (get_or-take (n * 2) l (i * 2) nan (omega arith)) ∙ ap (λ (t : List Float). get_or t (i * 2) nan) e ∙ get_or-take (n * 2) l₀ (i * 2) nan (omega arith) in
+    sym (get_or-take (n * 2) l (i * 2) nan (omega arith))
+    ∙ ap (λ (t : List Float). get_or t (i * 2) nan) e
+    ∙ get_or-take (n * 2) l₀ (i * 2) nan (omega arith) in
     let y : get_or l (i * 2 + 1) nan ≡ get_or l₀ (i * 2 + 1) nan =
-    sym (get_or-take (n * 2) l (i * 2 + 1) nan (omega arith)) ∙ ap (λ (t : List Float). get_or t (i * 2 + 1) nan) e ∙ get_or-take (n * 2) l₀ (i * 2 + 1) nan (omega arith) in
+    sym (get_or-take (n * 2) l (i * 2 + 1) nan (omega arith))
+    ∙ ap (λ (t : List Float). get_or t (i * 2 + 1) nan) e
+    ∙ get_or-take (n * 2) l₀ (i * 2 + 1) nan (omega arith) in
     rw (x, y)
 
 -- from a place on, its cell and what is behind
@@ -119,7 +126,9 @@ module _ (anchor : Point) (l₀ run : List Float) (m cap k : ℕ) where
     pub back : drop (min (i + j) cap * 2) l ≡ drop (min (i + j) cap * 2) merged
     pub left : take (i + j) whole ≡ inserted (by_anchor anchor) (points i l₀) (points j run)
 
-  module _ (fits : m ≤ cap) (room : cap * 2 ≤ length l₀) (given : k * 2 ≤ length run) (old-order : Ascending (by_anchor anchor) (points m l₀)) (new-order : Ascending (by_anchor anchor) (points k run)) where
+  module _
+      (fits : m ≤ cap) (room : cap * 2 ≤ length l₀) (given : k * 2 ≤ length run) (old-order : Ascending (by_anchor anchor) (points m l₀))
+      (new-order : Ascending (by_anchor anchor) (points k run)) where
     left_number : (i j : ℕ) → i ≤ m → j ≤ k → length (inserted (by_anchor anchor) (points i l₀) (points j run)) ≡ i + j
     left_number i j h g =
         omega (arith, length_inserted (by_anchor anchor) (points i l₀) (points j run), length_points i l₀ (omega arith), length_points j run (omega arith))
@@ -190,7 +199,11 @@ module _ (anchor : Point) (l₀ run : List Float) (m cap k : ℕ) where
     merge_done i j l s z =
         let u : i + j ≡ i = omega arith in
         let c : min (i + j) cap ≡ i = omega (arith, s.old_left) in
-        let w : take i whole ≡ points i l₀ = sym (ap (λ (n : ℕ). take n whole) u) ∙ s.left ∙ ap (λ (n : ℕ). inserted (by_anchor anchor) (points i l₀) (points n run)) z ∙ inserted_none (by_anchor anchor) (points i l₀) in
+        let w : take i whole ≡ points i l₀ =
+        sym (ap (λ (n : ℕ). take n whole) u)
+        ∙ s.left
+        ∙ ap (λ (n : ℕ). inserted (by_anchor anchor) (points i l₀) (points n run)) z
+        ∙ inserted_none (by_anchor anchor) (points i l₀) in
         let n : i * 2 ≤ length (flat (take cap whole)) = omega (arith, length_flat (take cap whole), taken_number, s.old_left) in
         let f : take (i * 2) l ≡ take (i * 2) merged =
         s.front
@@ -221,13 +234,17 @@ module _ (anchor : Point) (l₀ run : List Float) (m cap k : ℕ) where
 
     new_last :
         (i j : ℕ) (l : List Float) → i ≤ m → take (i * 2) l ≡ take (i * 2) l₀ → j < k → before_last anchor (point_at run j) l i ≡ false
-        → inserted (by_anchor anchor) (points i l₀) (points j run ++ point_at run j ∷ []) ≡ inserted (by_anchor anchor) (points i l₀) (points j run) ++ point_at run j ∷ []
+        → inserted (by_anchor anchor) (points i l₀) (points j run ++ point_at run j ∷ [])
+        ≡ inserted (by_anchor anchor) (points i l₀) (points j run) ++ point_at run j ∷ []
     unfolding before_last points
     new_last zero j l h f r e = last_only (by_anchor anchor) (linear_by anchor) (points j run) (point_at run j) (run_ascends j r)
     new_last (suc i) j l h f r e =
         let x : point_at l i ≡ point_at l₀ i = same_point i (suc i) l l₀ (omega arith) f in
-        let y : is_lt (by_anchor anchor (point_at run j) (point_at l₀ i)) ≡ false = ap (λ (p : Point). is_lt (by_anchor anchor (point_at run j) p)) (sym x) ∙ e in
-        rw (old_next i h) (last_new (by_anchor anchor) (linear_by anchor) (points i l₀) (points j run) (point_at l₀ i) (point_at run j) (old_ascends i h) (run_ascends j r) y)
+        let y : is_lt (by_anchor anchor (point_at run j) (point_at l₀ i)) ≡ false =
+        ap (λ (p : Point). is_lt (by_anchor anchor (point_at run j) p)) (sym x) ∙ e in
+        rw (old_next i h)
+        (last_new (by_anchor anchor) (linear_by anchor) (points i l₀) (points j run) (point_at l₀ i) (point_at run j)
+        (old_ascends i h) (run_ascends j r) y)
 
     -- the last old cell is placed
     pub merge_old :
@@ -243,11 +260,13 @@ module _ (anchor : Point) (l₀ run : List Float) (m cap k : ℕ) where
         let g : i < m = s.old_left in
         let r : j < k = s.new_left in
         let x : point_at l i ≡ point_at l₀ i = same_point i (suc i) l l₀ (omega arith) s.front in
-        let y : is_lt (by_anchor anchor (point_at run j) (point_at l₀ i)) ≡ true = ap (λ (p : Point). is_lt (by_anchor anchor (point_at run j) p)) (sym x) ∙ rw b at e in
+        let y : is_lt (by_anchor anchor (point_at run j) (point_at l₀ i)) ≡ true =
+        ap (λ (p : Point). is_lt (by_anchor anchor (point_at run j) p)) (sym x) ∙ rw b at e in
         let w : take (suc (i + suc j)) whole ≡ inserted (by_anchor anchor) (points i l₀) (points (suc j) run) ++ point_at l i ∷ [] =
         sym (ap (λ (n : ℕ). take n whole) c)
         ∙ s.left
-        ∙ rw (run_next j r, old_next i g) (last_old (by_anchor anchor) (linear_by anchor) (points i l₀) (points j run) (point_at l₀ i) (point_at run j) (run_ascends j r) y)
+        ∙ rw (run_next j r, old_next i g)
+        (last_old (by_anchor anchor) (linear_by anchor) (points i l₀) (points j run) (point_at l₀ i) (point_at run j) (run_ascends j r) y)
         ∙ ap (λ (p : Point). inserted (by_anchor anchor) (points i l₀) (points j run ++ point_at run j ∷ []) ++ p ∷ []) (sym x)
         ∙ rw (run_next j r) in (
           omega arith,

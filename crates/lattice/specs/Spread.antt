@@ -1,6 +1,7 @@
 -- The lattice packer over a field, as the code has it: one that is spread, and one that is only counted.
 -- Rests on the law that a cap which is not reached stops nothing.
-use Rattle.std.specs.Prelude.{◌≡◌, ℕ, zero, suc, ◌+◌, ◌-◌, ◌<◌, ◌≤◌, min, Bool, true, false, cond, not, ◌&&◌, ◌||◌, leb, List, [], ◌∷◌, ◌++◌, length, take, nat_le, nat_lt, Float, Some}
+use Rattle.std.specs.Prelude.{◌≡◌, ℕ, zero, suc, ◌+◌, ◌-◌, ◌<◌, ◌≤◌, min, leb, nat_le, nat_lt, Bool, true, false, cond, not, ◌&&◌, ◌||◌}
+use Rattle.std.specs.Prelude.{List, [], ◌∷◌, ◌++◌, length, take, Float, Some}
 use Rattle.std.proofs.Math.Path.{refl, ap}
 use Rattle.std.proofs.Common.{sym, ◌∙◌, arith, length-take}
 use Prim.Native.Nat.{Ordering}
@@ -15,7 +16,8 @@ use Rattle.glyphs.specs.Rect.{clear_of_obstacles, is_finite}
 use Rattle.regions.specs.Ring.{Piece, outer}
 use Rattle.regions.specs.Clearance.{signed_clearance}
 use Rattle.lattice.specs.Context.{inset, spacing}
-use Rattle.lattice.specs.Lattice.{HexCells, no_cells, Cap, never, at, reached, judge, hex_enum_cap, all_cells, cells_within, lattice_valid_cells, take_cells, by_anchor, sort_by_anchor}
+use Rattle.lattice.specs.Lattice.{HexCells, no_cells, Cap, never, at, reached, judge, hex_enum_cap, all_cells, cells_within, lattice_valid_cells}
+use Rattle.lattice.specs.Lattice.{take_cells, by_anchor, sort_by_anchor}
 use Rattle.lattice.specs.Tally.{cells_of}
 use Rattle.lattice.specs.Uniform.{1e-3ᶠ, available, fits_at, widen, spread_cells, pack_lattice}
 use Rattle.lattice.specs.declared.context.PackCtx.{PackCtx}
@@ -84,13 +86,19 @@ module _ (piece : Piece) (c : Float) (near : List Rectangle) where
     unfolding field_widen
     widen_down e f = ap (λ (k : ℕ). field_widen n field honoring s_max k lo hi) more ∙ rw (e, f)
 
-  pub widen_end : (n : ℕ) (field : Field) (honoring : Bool) (s_max : Float) (turns : ℕ) (lo hi : Float) → turns ≤ 0 → field_widen n field honoring s_max turns lo hi ≡ lo
+  pub widen_end :
+      (n : ℕ) (field : Field) (honoring : Bool) (s_max : Float) (turns : ℕ) (lo hi : Float) → turns ≤ 0
+      → field_widen n field honoring s_max turns lo hi ≡ lo
   unfolding field_widen
   widen_end n field honoring s_max zero lo hi h = refl
   widen_end n field honoring s_max (suc turns) lo hi h = absurd (omega arith)
 
   -- ---- a cap that is not reached stops nothing
-  module _ (n : ℕ) (cells : HexCells) (p : Point) (ps : List Point) (later : (found : HexCells) → length (judge piece c near (at n) found ps).free < n → judge piece c near (at n) found ps ≡ judge piece c near never found ps) where
+  module _
+      (n : ℕ) (cells : HexCells) (p : Point) (ps : List Point)
+      (later :
+      (found : HexCells) → length (judge piece c near (at n) found ps).free < n
+      → judge piece c near (at n) found ps ≡ judge piece c near never found ps) where
     abbrev freed : HexCells
     freed = record { free = cells.free ++ p ∷ []; blocked = cells.blocked }
 
@@ -105,25 +113,33 @@ module _ (piece : Piece) (c : Float) (near : List Rectangle) where
 
     judged :
         (a b : Bool)
-        → length (cond a (cond b (cond (reached (at n) (length freed.free)) freed (judge piece c near (at n) freed ps)) (judge piece c near (at n) walled ps)) (judge piece c near (at n) cells ps)).free < n
-        → cond a (cond b (cond (reached (at n) (length freed.free)) freed (judge piece c near (at n) freed ps)) (judge piece c near (at n) walled ps)) (judge piece c near (at n) cells ps)
+        → let few = λ (found : HexCells). judge piece c near (at n) found ps in
+        let found = cond a (cond b (cond (reached (at n) (length freed.free)) freed (few freed)) (few walled)) (few cells) in
+        length found.free < n
+        → found
         ≡ cond a (cond b (judge piece c near never freed ps) (judge piece c near never walled ps)) (judge piece c near never cells ps)
     judged true true h = after_free (nat_le n (length freed.free)) refl h
     judged true false h = later walled h
     judged false b h = later cells h
 
-  uncapped : (n : ℕ) (cells : HexCells) (ps : List Point) → length (judge piece c near (at n) cells ps).free < n → judge piece c near (at n) cells ps ≡ judge piece c near never cells ps
+  uncapped :
+      (n : ℕ) (cells : HexCells) (ps : List Point) → length (judge piece c near (at n) cells ps).free < n
+      → judge piece c near (at n) cells ps ≡ judge piece c near never cells ps
   unfolding judge
   uncapped n cells [] h = refl
   uncapped n cells (p ∷ ps) h =
       judged n cells p ps (λ (found : HexCells) (k : length (judge piece c near (at n) found ps).free < n). uncapped n found ps k)
       (signed_clearance p.x p.y piece ≥ᶠ c) (clear_of_obstacles p.x p.y near c) h
 
-  within : (b : Bool) (n : ℕ) (ps : List Point) → length (cond b no_cells (judge piece c near (at n) no_cells ps)).free < n → cond b no_cells (judge piece c near (at n) no_cells ps) ≡ cond b no_cells (judge piece c near never no_cells ps)
+  within :
+      (b : Bool) (n : ℕ) (ps : List Point) → length (cond b no_cells (judge piece c near (at n) no_cells ps)).free < n
+      → cond b no_cells (judge piece c near (at n) no_cells ps) ≡ cond b no_cells (judge piece c near never no_cells ps)
   within true n ps h = refl
   within false n ps h = uncapped n no_cells ps h
 
-  pub uncapped_cells : (n : ℕ) (field : Field) → length (cells_of field piece c near (at n)).free < n → cells_of field piece c near (at n) ≡ cells_of field piece c near never
+  pub uncapped_cells :
+      (n : ℕ) (field : Field) → length (cells_of field piece c near (at n)).free < n
+      → cells_of field piece c near (at n) ≡ cells_of field piece c near never
   unfolding cells_within
   uncapped_cells n field h =
       within (field.lattice.spacing ≤ᶠ 0ᶠ || not (is_finite field.lattice.spacing)) n
@@ -147,8 +163,9 @@ module _ (piece : Piece) (c : Float) (near : List Rectangle) where
       → take_cells (cells_of field piece c near (at n)) n field.anchor true ≡ field_take n field true
   unfolding field_take
   take_strict n field strict e =
+      let free = length (cells_of field piece c near (at n)).free in
       ap (λ (cells : HexCells). take_cells cells n field.anchor true)
-      (uncapped_cells n field (leb-false n (length (cells_of field piece c near (at n)).free) (first_of_and (nat_le n (length (cells_of field piece c near (at n)).free)) strict e)))
+      (uncapped_cells n field (leb-false n free (first_of_and (nat_le n free) strict e)))
 
   pub take_short :
       (n : ℕ) (field : Field) (honoring : Bool) → nat_lt (available honoring (cells_of field piece c near (at n))) n ≡ true
@@ -183,15 +200,22 @@ counted n anchor cells w true false e = length-take n (sort_by_anchor anchor cel
 counted n anchor cells w false x e = let k = leb-false n (length cells.free) e in omega arith
 
 -- ---- the packer over a piece is the packer over its field
-module _ (piece : Piece) (n : ℕ) (ctx : PackCtx) (near : List Rectangle) (field : Field) (box : ring_bounds (outer piece) ≡ Some field.extents) (s-min : field.lattice.spacing ≡ spacing ctx) where
+module _
+    (piece : Piece) (n : ℕ) (ctx : PackCtx) (near : List Rectangle) (field : Field) (box : ring_bounds (outer piece) ≡ Some field.extents)
+    (s-min : field.lattice.spacing ≡ spacing ctx) where
   abbrev rectangular : Bool
   rectangular = field.lattice.rectangular
 
-  cells_at : (s : Float) (cap : Cap) → lattice_valid_cells piece field.anchor (record { spacing = s; rectangular = field.lattice.rectangular }) (inset ctx) near cap ≡ cells_of (with_spacing field s) piece (inset ctx) near cap
+  cells_at :
+      (s : Float) (cap : Cap)
+      → lattice_valid_cells piece field.anchor (record { spacing = s; rectangular = field.lattice.rectangular }) (inset ctx) near cap
+      ≡ cells_of (with_spacing field s) piece (inset ctx) near cap
   unfolding lattice_valid_cells
   cells_at s cap = rw box
 
-  fits_is : (honoring : Bool) (s : Float) → fits_at piece n ctx rectangular near field.anchor honoring s ≡ field_fits piece (inset ctx) near n field honoring s
+  fits_is :
+      (honoring : Bool) (s : Float)
+      → fits_at piece n ctx rectangular near field.anchor honoring s ≡ field_fits piece (inset ctx) near n field honoring s
   unfolding field_fits
   fits_is honoring s = ap (λ (cells : HexCells). leb n (available honoring cells)) (cells_at s (at n))
 
@@ -210,9 +234,12 @@ module _ (piece : Piece) (n : ℕ) (ctx : PackCtx) (near : List Rectangle) (fiel
   unfolding spread_cells field_spacing field_take hypot
   spread_is at_min honoring =
       let s_max = hypot (field.extents.max_x -ᶠ field.extents.min_x) (field.extents.max_y -ᶠ field.extents.min_y) in
-      rw (box, ← s-min, fits_is honoring (max s_max field.lattice.spacing), widen_is honoring s_max 24 field.lattice.spacing (max s_max field.lattice.spacing), cells_at _ never)
+      let s_min = field.lattice.spacing in
+      rw (box, ← s-min, fits_is honoring (max s_max s_min), widen_is honoring s_max 24 s_min (max s_max s_min), cells_at _ never)
 
-  at_min : lattice_valid_cells piece field.anchor (record { spacing = spacing ctx; rectangular = field.lattice.rectangular }) (inset ctx) near (at n) ≡ cells_of field piece (inset ctx) near (at n)
+  at_min :
+      lattice_valid_cells piece field.anchor (record { spacing = spacing ctx; rectangular = field.lattice.rectangular }) (inset ctx) near (at n)
+      ≡ cells_of field piece (inset ctx) near (at n)
   at_min = rw (← s-min) (cells_at field.lattice.spacing (at n))
 
   -- the definition with its flags, and the cells at the least spacing, apart
@@ -223,11 +250,15 @@ module _ (piece : Piece) (n : ℕ) (ctx : PackCtx) (near : List Rectangle) (fiel
       (cond (nat_lt (available honoring cells) n || not spread) (take_cells cells n field.anchor honoring)
       (spread_cells piece n ctx rectangular near field.anchor (ring_bounds (outer piece)) cells honoring))
 
-  is_packed : pack_lattice piece n ctx rectangular near field.anchor ≡ packed ctx.mode.spread ctx.mode.strict_obstacles (cells_of field piece (inset ctx) near (at n))
+  is_packed :
+      pack_lattice piece n ctx rectangular near field.anchor
+      ≡ packed ctx.mode.spread ctx.mode.strict_obstacles (cells_of field piece (inset ctx) near (at n))
   unfolding pack_lattice packed
   is_packed = ap (packed ctx.mode.spread ctx.mode.strict_obstacles) at_min
 
-  pub pack_is : ctx.mode.spread ≡ true → pack_lattice piece n ctx rectangular near field.anchor ≡ field_pack piece (inset ctx) near n field ctx.mode.strict_obstacles
+  pub pack_is :
+      ctx.mode.spread ≡ true
+      → pack_lattice piece n ctx rectangular near field.anchor ≡ field_pack piece (inset ctx) near n field ctx.mode.strict_obstacles
   unfolding packed field_pack
   pack_is e =
       let cells = cells_of field piece (inset ctx) near (at n) in
@@ -246,5 +277,7 @@ module _ (piece : Piece) (n : ℕ) (ctx : PackCtx) (near : List Rectangle) (fiel
   unfolding packed
   trial_is e f =
       let cells = cells_of field piece (inset ctx) near (at n) in
+      let honoring = nat_le n (length cells.free) in
+      let wide = spread_cells piece n ctx rectangular near field.anchor (ring_bounds (outer piece)) cells honoring in
       ap length (is_packed ∙ ap (λ (b : Bool). packed b ctx.mode.strict_obstacles cells) e ∙ ap (λ (b : Bool). packed false b cells) f)
-      ∙ counted n field.anchor cells (spread_cells piece n ctx rectangular near field.anchor (ring_bounds (outer piece)) cells (nat_le n (length cells.free))) (nat_le n (length cells.free)) (nat_lt (available (nat_le n (length cells.free)) cells) n) refl
+      ∙ counted n field.anchor cells wide honoring (nat_lt (available honoring cells) n) refl

@@ -20,10 +20,12 @@ filled n cells = cells.free ++ take (n - length cells.free) cells.blocked
 
 chosen :
     (n : ℕ) (anchor : Point) (cells : HexCells) (honoring b : Bool) → nat_le n (length cells.free) ≡ b
-    → cond (honoring || b) (take n (sort_by_anchor anchor cells.free)) (sort_by_anchor anchor cells.free ++ take (n - length cells.free) (sort_by_anchor anchor cells.blocked))
+    → let free = sort_by_anchor anchor cells.free in
+    cond (honoring || b) (take n free) (free ++ take (n - length cells.free) (sort_by_anchor anchor cells.blocked))
     ≡ filled n (kept anchor n (cond honoring 0 n) cells)
 chosen n anchor cells true b e =
-    sym (ap (λ (t : List Point). take n (sort_by_anchor anchor cells.free) ++ t) (take-nil (n - length (take n (sort_by_anchor anchor cells.free)))) ∙ append-nil (take n (sort_by_anchor anchor cells.free)))
+    let free = take n (sort_by_anchor anchor cells.free) in
+    sym (ap (λ (t : List Point). free ++ t) (take-nil (n - length free)) ∙ append-nil free)
 chosen n anchor cells false true e =
     let free = sort_by_anchor anchor cells.free in
     let h = leb-true n (length cells.free) e in
@@ -35,7 +37,9 @@ chosen n anchor cells false false e =
     let k : take n free ≡ free = take_all n free (rw (length_sort anchor cells.free) (omega arith)) in
     rw (k, length_sort anchor cells.free, take-take (n - length cells.free) n (sort_by_anchor anchor cells.blocked) (omega arith))
 
-pub taken : (n : ℕ) (anchor : Point) (cells : HexCells) (honoring : Bool) → take_cells cells n anchor honoring ≡ filled n (kept anchor n (cond honoring 0 n) cells)
+pub taken :
+    (n : ℕ) (anchor : Point) (cells : HexCells) (honoring : Bool)
+    → take_cells cells n anchor honoring ≡ filled n (kept anchor n (cond honoring 0 n) cells)
 unfolding take_cells
 taken n anchor cells honoring = chosen n anchor cells honoring (nat_le n (length cells.free)) refl
 
@@ -86,7 +90,8 @@ fill n cells t f b f₀ b₀ h k room more e =
     let tf : t.free ≡ length cells.free = ap (λ (x : Counts). x.free) h.counts in
     let tb : t.blocked ≡ length cells.blocked = ap (λ (x : Counts). x.blocked) h.counts in
     let m : more ≡ min (length cells.blocked) (n - length cells.free) = omega arith in
-    let same : take more cells.blocked ≡ take (n - length cells.free) cells.blocked = ap (λ (q : ℕ). take q cells.blocked) m ∙ sym (first_of (n - length cells.free) cells.blocked) in (
+    let same : take more cells.blocked ≡ take (n - length cells.free) cells.blocked =
+    ap (λ (q : ℕ). take q cells.blocked) m ∙ sym (first_of (n - length cells.free) cells.blocked) in (
       simp (length-append, length-take) (omega arith),
       rw (tf, h.free_is, h.blocked_is)
           (append_cells cells.free cells.blocked f₀ b₀ more (omega arith) (omega arith) ∙ ap (λ (qs : List Point). written (flat (cells.free ++ qs)) f₀) same),

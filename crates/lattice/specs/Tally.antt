@@ -42,7 +42,10 @@ module _ (piece : Piece) (min-clearance : Float) (near : List Rectangle) where
   tally cap t (p ∷ ps) = let counted = count_cell t p in cond (nat_le cap counted.free) counted (tally cap counted ps)
 
   -- ---- bounds
-  count_le : (t : Counts) (a b : Bool) → let r = cond a (cond b (record { free = t.free + 1; blocked = t.blocked }) (record { free = t.free; blocked = t.blocked + 1 })) t in (r.free ≤ t.free + 1) × (r.blocked ≤ t.blocked + 1)
+  count_le :
+      (t : Counts) (a b : Bool)
+      → let r = cond a (cond b (record { free = t.free + 1; blocked = t.blocked }) (record { free = t.free; blocked = t.blocked + 1 })) t in
+      (r.free ≤ t.free + 1) × (r.blocked ≤ t.blocked + 1)
   count_le t true true = (omega arith, omega arith)
   count_le t true false = (omega arith, omega arith)
   count_le t false b = (omega arith, omega arith)
@@ -66,7 +69,9 @@ module _ (piece : Piece) (min-clearance : Float) (near : List Rectangle) where
   pub counted_bound : (t : Counts) (p : Point) (r : Counts) → r ≡ count_cell t p → (r.free ≤ t.free + 1) × (r.blocked ≤ t.blocked + 1)
   counted_bound t p r e = rw e (counted_le t p)
 
-  pub row_bound : (cap : ℕ) (t : Counts) (row : Row) (r : Counts) → r ≡ tally cap t (cells_in row) → (r.free ≤ t.free + row.count) × (r.blocked ≤ t.blocked + row.count)
+  pub row_bound :
+      (cap : ℕ) (t : Counts) (row : Row) (r : Counts) → r ≡ tally cap t (cells_in row)
+      → (r.free ≤ t.free + row.count) × (r.blocked ≤ t.blocked + row.count)
   row_bound cap t row r e = rw e (rw (length_in row) at (tally_le cap t (cells_in row)))
 
   -- ---- a turn of the loop over a row: r is what is counted with the cell k, at p
@@ -78,7 +83,9 @@ module _ (piece : Piece) (min-clearance : Float) (near : List Rectangle) where
     pub row_start : tally cap t (cells_in row) ≡ tally_from 0
     row_start = ap (tally cap t) (cells_start row.x row.y row.spacing row.first row.count)
 
-    module _ (k : ℕ) (h : k < row.count) (p : Point) (ep : p ≡ point (cell_x row.x row.spacing (row.first + k)) row.y) (r : Counts) (er : r ≡ count_cell t p) where
+    module _
+        (k : ℕ) (h : k < row.count) (p : Point) (ep : p ≡ point (cell_x row.x row.spacing (row.first + k)) row.y)
+        (r : Counts) (er : r ≡ count_cell t p) where
       pub row_stop : cap ≤ r.free → tally_from k ≡ r
       unfolding tally
       row_stop e = rw (cells_step row.x row.y row.spacing row.first k row.count h, ← ep, ← er, le-leb _ _ e)
@@ -126,7 +133,11 @@ module _ (piece : Piece) (min-clearance : Float) (near : List Rectangle) where
   rows_none cap t = refl
 
   -- ---- the definition's numbers
-  module _ (n : ℕ) (cells : HexCells) (p : Point) (ps : List Point) (h : length cells.free < n) (later : (found : HexCells) → length found.free < n → counts_of (judge piece min-clearance near (at n) found ps) ≡ tally n (counts_of found) ps) where
+  module _
+      (n : ℕ) (cells : HexCells) (p : Point) (ps : List Point) (h : length cells.free < n)
+      (later :
+      (found : HexCells) → length found.free < n
+      → counts_of (judge piece min-clearance near (at n) found ps) ≡ tally n (counts_of found) ps) where
     abbrev freed : HexCells
     freed = record { free = cells.free ++ p ∷ []; blocked = cells.blocked }
 
@@ -144,8 +155,12 @@ module _ (piece : Piece) (min-clearance : Float) (near : List Rectangle) where
 
     judged :
         (a b : Bool)
-        → let counted = cond a (cond b (record { free = length cells.free + 1; blocked = length cells.blocked }) (record { free = length cells.free; blocked = length cells.blocked + 1 })) (counts_of cells) in
-        counts_of (cond a (cond b (cond (reached (at n) (length freed.free)) freed (judge piece min-clearance near (at n) freed ps)) (judge piece min-clearance near (at n) walled ps)) (judge piece min-clearance near (at n) cells ps))
+        → let free = length cells.free in
+        let blocked = length cells.blocked in
+        let more : Counts = cond b (record { free = free + 1; blocked = blocked }) (record { free = free; blocked = blocked + 1 }) in
+        let counted = cond a more (counts_of cells) in
+        let few = λ (found : HexCells). judge piece min-clearance near (at n) found ps in
+        counts_of (cond a (cond b (cond (reached (at n) (length freed.free)) freed (few freed)) (few walled)) (few cells))
         ≡ cond (nat_le n counted.free) counted (tally n counted ps)
     judged true true = rw (← one_more cells.free) (after_free (nat_le n (length freed.free)) refl)
     judged true false = rw (lt-leb n (length cells.free) h, ← one_more cells.blocked) (later walled h)

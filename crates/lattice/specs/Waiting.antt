@@ -47,7 +47,9 @@ module _ (anchor : Point) (nf : ℕ) (t : Free) (f g : List Float) (h : Line anc
   module _ (room : 64 ≤ length g) where
     pub length_lined : length (lined anchor nf t f g) ≡ min (t.kept + t.waiting) nf
     length_lined =
-        omega (arith, length-take nf all, length_inserted (by_anchor anchor) (points t.kept f) (points t.waiting g), length_points t.kept f (omega (arith, h.kept_le, h.room)), length_points t.waiting g (omega (arith, h.waiting_le, room)))
+        let n = length_points t.kept f (omega (arith, h.kept_le, h.room)) in
+        let m = length_points t.waiting g (omega (arith, h.waiting_le, room)) in
+        omega (arith, length-take nf all, length_inserted (by_anchor anchor) (points t.kept f) (points t.waiting g), n, m)
 
     -- those that wait put among the others
     pub flushed :
@@ -57,9 +59,10 @@ module _ (anchor : Point) (nf : ℕ) (t : Free) (f g : List Float) (h : Line anc
     unfolding points
     flushed m f' n e =
         let c : length (lined anchor nf t f g) ≡ m = length_lined ∙ sym n in
-        let k : length f' ≡ length f = ap length e ∙ length_written (flat (lined anchor nf t f g)) f (omega (arith, length_flat (lined anchor nf t f g), h.room)) in
+        let ps = lined anchor nf t f g in
+        let k : length f' ≡ length f = ap length e ∙ length_written (flat ps) f (omega (arith, length_flat ps, h.room)) in
         let q : points m f' ≡ lined anchor nf t f g =
-        ap (λ (l : List Float). points m l) e ∙ ap (λ (i : ℕ). points i (written (flat (lined anchor nf t f g)) f)) (sym c) ∙ written_points (lined anchor nf t f g) f in (
+        ap (λ (l : List Float). points m l) e ∙ ap (λ (i : ℕ). points i (written (flat ps) f)) (sym c) ∙ written_points ps f in (
           record {
             kept_le = omega arith;
             room = omega (arith, h.room);
@@ -79,7 +82,8 @@ module _ (anchor : Point) (nf : ℕ) (t : Free) (f g : List Float) (h : Line anc
         Line anchor nf r f g' × (lined anchor nf r f g' ≡ take nf (insert_behind (by_anchor anchor) p (lined anchor nf t f g)))
     one_more p s n g' m e =
         let ps = insert_behind (by_anchor anchor) p (points t.waiting g) in
-        let c : length ps ≡ n = omega (arith, length_behind (by_anchor anchor) p (points t.waiting g), length_points t.waiting g (omega (arith, h.waiting_le, room))) in
+        let k = length_points t.waiting g (omega (arith, h.waiting_le, room)) in
+        let c : length ps ≡ n = omega (arith, length_behind (by_anchor anchor) p (points t.waiting g), k) in
         let d : g' ≡ written (flat ps) g = e ∙ ap (λ (l : List Point). written (flat l) g) (take_all 32 ps (omega arith)) in
         let q : points n g' ≡ ps = ap (λ (l : List Float). points n l) d ∙ ap (λ (i : ℕ). points i (written (flat ps) g)) (sym c) ∙ written_points ps g in (
           record {
@@ -87,7 +91,9 @@ module _ (anchor : Point) (nf : ℕ) (t : Free) (f g : List Float) (h : Line anc
             room = h.room;
             order = h.order;
             waiting_le = omega arith;
-            run_order = subst (Ascending (by_anchor anchor)) (sym q) (behind_ascending (by_anchor anchor) (linear_by anchor) p (points t.waiting g) h.run_order);
+            run_order =
+                subst (Ascending (by_anchor anchor)) (sym q)
+                (behind_ascending (by_anchor anchor) (linear_by anchor) p (points t.waiting g) h.run_order);
           },
           ap (λ (l : List Point). take nf (inserted (by_anchor anchor) (points t.kept f) l)) q
               ∙ kept_more (by_anchor anchor) (linear_by anchor) nf (points t.kept f) (points t.waiting g) p h.order h.run_order,

@@ -23,7 +23,9 @@ pub length_in : (row : Row) → length (cells_in row) ≡ row.count
 length_in row = length_cells row.x row.y row.spacing row.first row.count
 
 -- so many cells are left as the next row has, and the others
-pub length_left : (rows : Rows) (row : Row) (others : List (List Point)) → rows_left rows ≡ cells_in row ∷ others → length (cells_left rows) ≡ row.count + length (joined others)
+pub length_left :
+    (rows : Rows) (row : Row) (others : List (List Point)) → rows_left rows ≡ cells_in row ∷ others
+    → length (cells_left rows) ≡ row.count + length (joined others)
 length_left rows row others e =
     ap (λ (l : List (List Point)). length (joined l)) e
     ∙ length-append (cells_in row) (joined others)

@@ -13,6 +13,7 @@ use crate::tables::{Nearby, Tables};
 use crate::walk::Rows;
 use glyphs::rect::Point;
 
+// How many cells are free and how many blocked. It is of the shape of `Free`, and has nothing else in common with it.
 #[derive(Clone, Copy)]
 pub struct Counts {
     pub free: usize,

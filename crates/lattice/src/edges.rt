@@ -1,5 +1,5 @@
 // The edges of a piece that lie near a height, found once for a row of cells, and the test of a place against them.
-ghost use Rattle.std.specs.Prelude.{◌≡◌, ◌/◌, ◌<◌, ◌≤◌, true, length, take, IfSome};
+ghost use Rattle.std.specs.Prelude.{◌≡◌, ◌<◌, ◌≤◌, true, length, take, IfSome};
 ghost use Rattle.float.specs.Ops.{◌<ᶠ◌, 0ᶠ};
 ghost use Rattle.rounding.specs.Bounds.{Sized};
 ghost use Rattle.regions.specs.Pieces.{rings_of};
@@ -7,13 +7,12 @@ ghost use Rattle.lattice.specs.Far.{Sure, Beyond};
 ghost use Rattle.lattice.specs.Edges.{edge_at, keeps, keeps_edges, NearEdges, Added, AddedRing};
 
 use crate::site::Site;
-use glyphs::points::{vx, vy};
 use glyphs::rect::Point;
 use regions::clearance::edge_square;
 use regions::margin::Margin;
 use regions::ring::after;
 
-// The edge of a ring from one vertex to the next.
+// The edge of a ring from one vertex to the next: no other struct of this crate is of two points.
 #[derive(Clone, Copy, Default)]
 pub struct Edge {
     pub from: Point,
@@ -73,20 +72,13 @@ fn is_far(y: f64, reach: f64, edge: Edge) -> bool
 }
 
 // The edge from the vertex `i` of a ring on.
-fn edge_at(ring: &[f64], i: usize) -> Edge
-    requires { i < length ring.now / 2 }
-    ensures { result ≡ edge_at ring.now (length ring.now / 2) i }
+fn edge_at(ring: &[Point], i: usize) -> Edge
+    requires { i < length ring.now }
+    ensures { result ≡ edge_at ring.now (length ring.now) i }
 {
-    let k = after(ring.len() / 2, i);
     Edge {
-        from: Point {
-            x: vx(ring, i),
-            y: vy(ring, i),
-        },
-        to: Point {
-            x: vx(ring, k),
-            y: vy(ring, k),
-        },
+        from: ring[i],
+        to: ring[after(ring.len(), i)],
     }
 }
 
@@ -107,11 +99,11 @@ fn put_near(y: f64, reach: f64, edge: Edge, edges: &mut [Edge], m: usize) -> Opt
 }
 
 // Puts the near edges of a ring behind the `start` of a list.
-fn put_ring(y: f64, reach: f64, ring: &[f64], edges: &mut [Edge], start: usize) -> Option<usize>
+fn put_ring(y: f64, reach: f64, ring: &[Point], edges: &mut [Edge], start: usize) -> Option<usize>
     requires { start ≤ length edges.old }
     ensures { IfSome result (λ n. (n ≤ length edges.new) × AddedRing y reach ring.now (take start edges.old) (take n edges.new)) }
 {
-    let n = ring.len() / 2;
+    let n = ring.len();
     if n < 2 {
         return Some(start);
     }
@@ -140,9 +132,7 @@ pub fn near_edges(y: f64, site: Site, edges: &mut [Edge]) -> Option<usize>
 fn keeps_edge(p: Point, edge: Edge, margin: Margin) -> bool
     ensures { result ≡ keeps p.x p.y margin.least edge }
 {
-    let a = edge.from;
-    let b = edge.to;
-    let square = edge_square(p.x, p.y, a.x, a.y, b.x, b.y);
+    let square = edge_square(p.x, p.y, edge.from, edge.to);
     if square >= margin.high {
         return true;
     }

@@ -7,8 +7,7 @@ ghost use Rattle.regions.specs.Pieces.{rings_of};
 ghost use Rattle.lattice.specs.Escape.{better, exits, consider, best_exit, escape_obstacles};
 ghost use Rattle.lattice.specs.Keys.{ordering};
 
-use crate::nearest::squared_distance;
-use glyphs::rect::{Point, Rectangle, clear_of_obstacles};
+use glyphs::rect::{Point, Rectangle, clear_of_obstacles, squared_distance};
 use regions::clearance::signed_clearance;
 use regions::piece::RegionPiece;
 use std::cmp::Ordering;
@@ -29,7 +28,7 @@ struct Blocked<'a> {
     clearance: f64,
 }
 
-// How two floats compare by their keys: NaN has its place in the total order, which no derived order gives it.
+// How two floats compare by their keys: the library's `total_cmp` asks that neither is a NaN, which has its place here.
 fn total_cmp(x: f64, y: f64) -> Ordering
     ensures { ordering result ≡ total_cmp x y }
 {

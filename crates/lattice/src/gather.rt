@@ -94,13 +94,13 @@ impl Gathering<'_> {
             self.gather_cell(row.cell(k), wanted, &nearby);
         }
         let free = self.t.free;
+        let run = &self.run[..];
         self.t.free.kept = merge_run(
             &mut self.free[..],
             free.kept,
             wanted.free,
             wanted.anchor,
-            &self.run[..],
-            free.waiting,
+            &run[..free.waiting * 2],
         );
     }
 }

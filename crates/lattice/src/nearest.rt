@@ -1,24 +1,17 @@
-// discs.rs, `sort_by_anchor`: the cells nearest to an anchor, kept in order in a slice of their x and y in turn.
-ghost use Rattle.std.specs.Prelude.{◌≡◌, suc, ◌+◌, ◌*◌, ◌<◌, ◌≤◌, min, length, take};
+// discs.rs, `sort_by_anchor`: the cells nearest to an anchor, kept in order in a slice of their x and y in turn, as C lends it.
+ghost use Rattle.std.specs.Prelude.{◌≡◌, suc, ◌+◌, ◌*◌, ◌/◌, ◌<◌, ◌≤◌, min, length, take};
 ghost use Rattle.laws.specs.Bounded.{insert_behind, lead};
 ghost use Rattle.laws.specs.Lists.{written};
 ghost use Rattle.laws.specs.Orders.{is_lt};
 ghost use Rattle.laws.specs.Sorted.{Ascending};
-ghost use Rattle.lattice.specs.Escape.{squared_distance};
-ghost use Rattle.glyphs.specs.Spots.{flat};
+ghost use Rattle.glyphs.specs.Spots.{flat, spots_of};
 ghost use Rattle.lattice.specs.Flat.{points, moved};
 ghost use Rattle.lattice.specs.Lattice.{by_anchor};
 ghost use Rattle.lattice.specs.Merge.{inserted};
 ghost use Rattle.lattice.specs.Run.{before_last, put_below};
 
-use glyphs::rect::Point;
+use glyphs::rect::{Point, squared_distance};
 use glyphs::spots::{put_spot, spot};
-
-pub fn squared_distance(a: Point, b: Point) -> f64
-    ensures { result ≡ squared_distance a b }
-{
-    (a.x - b.x) * (a.x - b.x) + (a.y - b.y) * (a.y - b.y)
-}
 
 // Whether `a` comes before `b`: by squared distance, then y, then x. By hand, for speed: with `then_with`, which proves, a
 // lattice takes some hundredths longer to pack, as each comparison makes an `Ordering` that is taken apart again.
@@ -38,14 +31,14 @@ fn precedes(anchor: Point, a: Point, b: Point) -> bool
     float::total_less(a.x, b.x)
 }
 
-// How many of the first `m` cells, which are in order, `p` is not before. By hand, for speed: with `partition_point` on the
-// cells as pairs, which proves, a lattice takes some hundredths longer to pack.
-fn place(cells: &[f64], m: usize, anchor: Point, p: Point) -> usize
-    requires { (m * 2 ≤ length cells.now) × Ascending (by_anchor anchor) (points m cells.now) }
-    ensures { result ≡ lead (by_anchor anchor) p (points m cells.now) }
+// How many of some cells, which are in order, `p` is not before. By hand, for speed: with `partition_point` on the cells as
+// pairs, which proves, a lattice takes some hundredths longer to pack.
+fn place(cells: &[f64], anchor: Point, p: Point) -> usize
+    requires { Ascending (by_anchor anchor) (spots_of cells.now) }
+    ensures { result ≡ lead (by_anchor anchor) p (spots_of cells.now) }
 {
     let mut low = 0;
-    let mut high = m;
+    let mut high = cells.len() / 2;
     while low < high {
         let mid = low + (high - low) / 2;
         if precedes(anchor, p, spot(cells, mid)) {
@@ -72,7 +65,7 @@ pub fn keep(cells: &mut [f64], m: usize, cap: usize, anchor: Point, p: Point) ->
     requires { (m ≤ cap) × (cap * 2 ≤ length cells.old) × Ascending (by_anchor anchor) (points m cells.old) }
     ensures { (result ≡ min (suc m) cap) × (cells.new ≡ written (flat (take cap (insert_behind (by_anchor anchor) p (points m cells.old)))) cells.old) }
 {
-    let k = place(&cells[..], m, anchor, p);
+    let k = place(&cells[..m * 2], anchor, p);
     if k < cap {
         let e = m.min(cap - 1);
         make_room(&mut cells[..], k, e);
@@ -103,22 +96,16 @@ fn put_below(cells: &mut [f64], cap: usize, e: usize, p: Point)
     }
 }
 
-// Puts a run of `k` cells in order among the `m` cells, from the last: so only those behind the run's first move.
+// Puts a run of cells in order among the `m` cells, from the last: so only those behind the run's first move.
 // What is past `cap` is dropped. Answers how many there are then, as `keep` does.
-pub fn merge_run(
-    cells: &mut [f64],
-    m: usize,
-    cap: usize,
-    anchor: Point,
-    run: &[f64],
-    k: usize,
-) -> usize
-    requires { (m ≤ cap) × (cap * 2 ≤ length cells.old) × (k * 2 ≤ length run.now)
+pub fn merge_run(cells: &mut [f64], m: usize, cap: usize, anchor: Point, run: &[f64]) -> usize
+    requires { (m ≤ cap) × (cap * 2 ≤ length cells.old)
         × Ascending (by_anchor anchor) (points m cells.old)
-        × Ascending (by_anchor anchor) (points k run.now) }
-    ensures { (result ≡ min (m + k) cap)
-        × (cells.new ≡ written (flat (take cap (inserted (by_anchor anchor) (points m cells.old) (points k run.now)))) cells.old) }
+        × Ascending (by_anchor anchor) (spots_of run.now) }
+    ensures { (result ≡ min (m + length run.now / 2) cap)
+        × (cells.new ≡ written (flat (take cap (inserted (by_anchor anchor) (points m cells.old) (spots_of run.now)))) cells.old) }
 {
+    let k = run.len() / 2;
     let mut i = m;
     for j in (0..k).rev() {
         let p = spot(run, j);

@@ -39,16 +39,12 @@ pub fn number(u: u64) -> f64
 }
 
 // How many numbers there are from `first` through `last`, and at most `left`. All 2^64 of them are one more than a `u64`
-// has, so `left` is asked before one is added.
+// has, and `left` is no more than it has.
 pub fn many(first: u64, last: u64, left: usize) -> usize
     ensures { result ≡ min (suc last - first) left }
 {
     if last < first {
         return 0;
     }
-    let more = last - first;
-    if more < left as u64 {
-        return more as usize + 1;
-    }
-    left
+    (last - first).saturating_add(1).min(left as u64) as usize
 }

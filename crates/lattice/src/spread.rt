@@ -39,14 +39,13 @@ fn is_enough(honoring: bool, t: Counts, n: usize) -> bool
     t.blocked >= n - free
 }
 
-// Copies the first `m` of `cells` behind the first `at` spots. C lends both as floats, so the numbers stand beside them.
-fn append(spots: &mut [f64], at: usize, cells: &[f64], m: usize)
-    requires { ((at + m) * 2 ≤ length spots.old) × (m * 2 ≤ length cells.now) }
-    ensures { spots.new ≡ paste spots.old (at * 2) cells.now (m * 2) }
+// Copies cells behind the first `at` spots. C lends both as floats, two for each.
+fn append(spots: &mut [f64], at: usize, cells: &[f64])
+    requires { at * 2 + length cells.now ≤ length spots.old }
+    ensures { spots.new ≡ paste spots.old (at * 2) cells.now (length cells.now) }
 {
     let a = at * 2;
-    let e = m * 2;
-    spots[a..a + e].copy_from_slice(&cells[..e]);
+    spots[a..a + cells.len()].copy_from_slice(cells);
 }
 
 // How many blocked cells are wanted where `n` cells are: none by a packing that is honoring its obstacles.
@@ -130,7 +129,7 @@ impl Packing<'_> {
             &mut blocked[..],
         );
         let more = (n - t.free).min(t.blocked);
-        append(&mut spots[..], t.free, &blocked[..], more);
+        append(&mut spots[..], t.free, &blocked[..more * 2]);
         t.free + more
     }
 }

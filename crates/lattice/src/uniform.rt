@@ -88,7 +88,8 @@ pub fn pack_uniform_piece(
     blocked: &mut [f64],
     spots: &mut [f64],
 ) -> usize
-    requires { (0 < n) × (ctx.mode.spread ≡ true) × (length obstacles.now ≤ length near.old) × (n * 2 ≤ length blocked.old) × (n * 2 ≤ length spots.old) }
+    requires { (0 < n) × (ctx.mode.spread ≡ true) × (length obstacles.now ≤ length near.old) × (n * 2 ≤ length blocked.old)
+        × (n * 2 ≤ length spots.old) }
     ensures { Puts (pack_around poi (rings_of piece.entry) n ctx obstacles.now rectangular) result spots.new spots.old }
 {
     let Some(extents) = piece_bounds(piece) else {

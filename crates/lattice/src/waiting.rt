@@ -27,7 +27,7 @@ fn flush_full(free: &mut [f64], nf: usize, anchor: Point, run: &[f64; 64], t: Fr
     if t.waiting < 32 {
         return t;
     }
-    let m = merge_run(&mut free[..], t.kept, nf, anchor, &run[..], t.waiting);
+    let m = merge_run(&mut free[..], t.kept, nf, anchor, &run[..t.waiting * 2]);
     Free {
         kept: m,
         waiting: 0,

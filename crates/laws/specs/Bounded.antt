@@ -122,7 +122,8 @@ module _ {A : Type 0} (cmp : A → A → Ordering) where
     before_later x y z Ordering.gt e f n = absurd n
 
     -- and one that x is not before stands earlier
-    pub lead_behind : (x : A) (ys : List A) (i : ℕ) (d : A) → Ascending cmp ys → i < length ys → is_lt (cmp x (get_or ys i d)) ≡ false → i < lead x ys
+    pub lead_behind :
+        (x : A) (ys : List A) (i : ℕ) (d : A) → Ascending cmp ys → i < length ys → is_lt (cmp x (get_or ys i d)) ≡ false → i < lead x ys
     unfolding lead
     lead_behind x [] i d a h e = absurd (omega arith)
     lead_behind x (y ∷ ys) zero d a h e = into (cmp x y) e
@@ -135,7 +136,8 @@ module _ {A : Type 0} (cmp : A → A → Ordering) where
       where
         into : (o : Ordering) → cmp x y ≡ o → i < lead x ys → suc i < stop o (lead x ys)
         into Ordering.lt f k =
-            let t : is_lt (cmp x (get_or ys i d)) ≡ true = before_later x y (get_or ys i d) (cmp y (get_or ys i d)) f refl (below_at y ys i d a.0 (omega arith)) in
+            let t : is_lt (cmp x (get_or ys i d)) ≡ true =
+            before_later x y (get_or ys i d) (cmp y (get_or ys i d)) f refl (below_at y ys i d a.0 (omega arith)) in
             let w : ◌≡◌ {A = ℕ} 0 1 = cc in
             absurd (omega arith)
         into Ordering.eq f k = omega arith
@@ -158,7 +160,9 @@ module _ {A : Type 0} (cmp : A → A → Ordering) where
     behind_ascending x (y ∷ ys) a =
         into (cmp x y) refl (insert_behind x ys) (λ (n : NotGt (cmp y x)). behind_none_below y x ys n a.0) (behind_ascending x ys a.1)
       where
-        into : (o : Ordering) → cmp x y ≡ o → (t : List A) → (NotGt (cmp y x) → None-below cmp y t) → Ascending cmp t → Ascending cmp (behind o x y ys t)
+        into :
+            (o : Ordering) → cmp x y ≡ o → (t : List A) → (NotGt (cmp y x) → None-below cmp y t) → Ascending cmp t
+            → Ascending cmp (behind o x y ys t)
         into Ordering.lt e t n b = ((rw e tt, none_below cmp l x y ys (rw e tt) a.0), a)
         into Ordering.eq e t n b = (n (rw (turned_to l x y Ordering.eq e) tt), b)
         into Ordering.gt e t n b = (n (rw (turned_to l x y Ordering.gt e) tt), b)
@@ -170,7 +174,9 @@ module _ {A : Type 0} (cmp : A → A → Ordering) where
     swap Ordering.gt x y t = refl
 
     -- x goes behind y where x is not before z and y is not after z
-    pass : (o u : Ordering) (x y z : A) (t into : List A) → cmp x z ≡ o → cmp y z ≡ u → is_lt o ≡ false → NotGt u → behind (cmp x y) x y t into ≡ y ∷ into
+    pass :
+        (o u : Ordering) (x y z : A) (t into : List A) → cmp x z ≡ o → cmp y z ≡ u → is_lt o ≡ false → NotGt u
+        → behind (cmp x y) x y t into ≡ y ∷ into
     pass Ordering.lt u x y z t into e f h n = let w : ◌≡◌ {A = ℕ} 0 1 = cc in absurd (omega arith)
     pass Ordering.eq Ordering.lt x y z t into e f h n = rw (l.level x z y e, turned_to l y z Ordering.lt f)
     pass Ordering.eq Ordering.eq x y z t into e f h n = rw (l.level x z y e, turned_to l y z Ordering.eq f)

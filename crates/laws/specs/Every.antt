@@ -21,7 +21,8 @@ module _ {A : Type 0} (P : A → Type 0) where
   every_take (suc n) [] p = tt
   every_take (suc n) (x ∷ xs) p = (p.0, every_take n xs p.1)
 
-  every_place : (cmp : A → A → Ordering) (o : Ordering) (x y : A) (ys into : List A) → P x → P y → Every ys → Every into → Every (place cmp o x y ys into)
+  every_place :
+      (cmp : A → A → Ordering) (o : Ordering) (x y : A) (ys into : List A) → P x → P y → Every ys → Every into → Every (place cmp o x y ys into)
   every_place cmp Ordering.lt x y ys into p q r s = (p, (q, r))
   every_place cmp Ordering.eq x y ys into p q r s = (p, (q, r))
   every_place cmp Ordering.gt x y ys into p q r s = (q, s)

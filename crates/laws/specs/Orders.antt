@@ -153,7 +153,9 @@ module _ {A : Type 0} {p q : A → A → Ordering} (l : Linear p) (m : Linear q)
   then_reverse Ordering.eq u = refl
   then_reverse Ordering.gt u = refl
 
-  then_below : (a b c : A) (o u : Ordering) → p a b ≡ o → p b c ≡ u → o then_by q a b ≡ Ordering.lt → u then_by q b c ≡ Ordering.lt → p a c then_by q a c ≡ Ordering.lt
+  then_below :
+      (a b c : A) (o u : Ordering) → p a b ≡ o → p b c ≡ u → o then_by q a b ≡ Ordering.lt → u then_by q b c ≡ Ordering.lt
+      → p a c then_by q a c ≡ Ordering.lt
   then_below a b c Ordering.lt Ordering.lt e f h k = rw (l.below a b c e f) refl
   then_below a b c Ordering.lt Ordering.eq e f h k = rw (← level_right l a b c f, e) refl
   then_below a b c Ordering.lt Ordering.gt e f h k = let z : Ordering.gt ≡ Ordering.lt = k in cc

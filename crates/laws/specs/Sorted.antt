@@ -51,7 +51,9 @@ NotGt Ordering.gt = ⊥
 
 module _ {A : Type 0} (cmp : A → A → Ordering) where
   -- ---- the same elements
-  weigh_place : (p : A → ℕ) (o : Ordering) (x y : A) (ys into : List A) → weigh p into ≡ p x + weigh p ys → weigh p (place cmp o x y ys into) ≡ p x + (p y + weigh p ys)
+  weigh_place :
+      (p : A → ℕ) (o : Ordering) (x y : A) (ys into : List A) → weigh p into ≡ p x + weigh p ys
+      → weigh p (place cmp o x y ys into) ≡ p x + (p y + weigh p ys)
   unfolding weigh
   weigh_place p Ordering.lt x y ys into h = refl
   weigh_place p Ordering.eq x y ys into h = refl
@@ -95,7 +97,9 @@ module _ {A : Type 0} (cmp : A → A → Ordering) where
     none_below x y [] h k = tt
     none_below x y (z ∷ zs) h k = (through x y z (cmp x y) (cmp y z) refl refl h k.0, none_below x y zs h k.1)
 
-    into_none_below : (z : A) (o : Ordering) (x y : A) (ys into : List A) → NotGt (cmp z x) → NotGt (cmp z y) → None-below z ys → None-below z into → None-below z (place cmp o x y ys into)
+    into_none_below :
+        (z : A) (o : Ordering) (x y : A) (ys into : List A) → NotGt (cmp z x) → NotGt (cmp z y) → None-below z ys → None-below z into
+        → None-below z (place cmp o x y ys into)
     into_none_below z Ordering.lt x y ys into h k m n = (h, (k, m))
     into_none_below z Ordering.eq x y ys into h k m n = (h, (k, m))
     into_none_below z Ordering.gt x y ys into h k m n = (k, n)
@@ -105,7 +109,9 @@ module _ {A : Type 0} (cmp : A → A → Ordering) where
     insert_none_below z x [] h k = (h, tt)
     insert_none_below z x (y ∷ ys) h k = into_none_below z (cmp x y) x y ys (insert cmp x ys) h k.0 k.1 (insert_none_below z x ys h k.1)
 
-    place_ascending : (o : Ordering) (x y : A) (ys : List A) → cmp x y ≡ o → None-below y ys → Ascending ys → Ascending (insert cmp x ys) → Ascending (place cmp o x y ys (insert cmp x ys))
+    place_ascending :
+        (o : Ordering) (x y : A) (ys : List A) → cmp x y ≡ o → None-below y ys → Ascending ys → Ascending (insert cmp x ys)
+        → Ascending (place cmp o x y ys (insert cmp x ys))
     place_ascending Ordering.lt x y ys e n a b = ((rw e tt, none_below x y ys (rw e tt) n), (n, a))
     place_ascending Ordering.eq x y ys e n a b = ((rw e tt, none_below x y ys (rw e tt) n), (n, a))
     place_ascending Ordering.gt x y ys e n a b = (insert_none_below y x ys (rw (turned_to l x y Ordering.gt e) tt) n, b)
@@ -143,7 +149,9 @@ module _ {A : Type 0} (cmp : A → A → Ordering) where
     no_level x y [] e h = refl
     no_level x y (z ∷ zs) e h = rw (after x y z (cmp y z) e refl h.0) (omega (arith, no_level x y zs e h.1))
 
-    first : (t : ℕ) (x y : A) (ys : List A) (o : Ordering) → cmp y x ≡ o → None-below y ys → levels x (take t ys) ≡ min (t - rank x ys) (levels x ys) → if_eq o + levels x (take t ys) ≡ min (suc t - (if_lt o + rank x ys)) (if_eq o + levels x ys)
+    first :
+        (t : ℕ) (x y : A) (ys : List A) (o : Ordering) → cmp y x ≡ o → None-below y ys → levels x (take t ys) ≡ min (t - rank x ys) (levels x ys)
+        → if_eq o + levels x (take t ys) ≡ min (suc t - (if_lt o + rank x ys)) (if_eq o + levels x ys)
     first t x y ys Ordering.lt e n h = omega arith
     first t x y ys Ordering.eq e n h = let z : rank x ys ≡ 0 = no_rank x ys (none_below x y ys (rw (turned_to l y x Ordering.eq e) tt) n) in omega arith
     first t x y ys Ordering.gt e n h = let z : levels x ys ≡ 0 = no_level x y ys (turned_to l y x Ordering.gt e) n in omega arith

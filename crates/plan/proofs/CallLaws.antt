@@ -1,8 +1,8 @@
 -- Laws of the call: what the reader hands on, which row answers, and what the lent slices hold after it.
 -- Rests on what the reader leaves being the job's, and on which numbers the rows refuse with.
-use Rattle.std.specs.Prelude.{ℕ, zero, suc, ◌+◌, ◌<◌, ◌≤◌, ◌≡◌, true, false, List, [], ◌∷◌, length, take, drop, Float}
+use Rattle.std.specs.Prelude.{ℕ, zero, suc, ◌+◌, ◌<◌, ◌≤◌, ◌≡◌, true, false, List, [], ◌∷◌, length, Float}
 use Rattle.std.proofs.Math.Path.{refl, sym}
-use Rattle.std.proofs.Common.{ap, subst, ◌∙◌, arith, take_at}
+use Rattle.std.proofs.Common.{ap, subst, ◌∙◌, arith}
 use Rattle.std.proofs.lemmas.List.{append-nil}
 use borrow.Author.Tests.{ne_eqb, lt-leb, le-leb}
 use Rattle.laws.specs.Lists.{written}
@@ -12,17 +12,17 @@ use Rattle.format.specs.declared.pieces.Pieces.{Pieces}
 use Rattle.format.specs.RowLaws.{row_fault, row_clear}
 use Rattle.sheet.specs.Sheet.{sheet_of}
 use Rattle.discs.specs.PlaceGlyphs.{Placements}
+use Rattle.discs.specs.declared.options.GlyphOptions.{GlyphOptions}
 use Rattle.discs.specs.declared.rows.Row.{Row}
-use Rattle.job.specs.declared.read.Items.{Items}
 use Rattle.job.specs.Head.{lent_fault, work_fault}
-use Rattle.job.specs.Job.{job_of, zones, items_fault, coords_of, sizes_of, rings_of, rows_of, sheet_room, sheet_fault, rows_room}
+use Rattle.job.specs.Job.{job_of, zones, items_fault, points_of, sizes_of, rings_of, rows_of, sheet_room, sheet_fault, rows_room}
 use Rattle.laws.specs.Every.{Every}
 use Rattle.job.specs.Rows.{Fits, rows_fit, length_are, rows_are, room_is}
 use Rattle.job.proofs.Known.{job_known}
 use Rattle.job.specs.Steps.{ItemsRead}
 use Rattle.job.specs.Plan.{number_of, placements_of, sheet_for, work_after, refused, given, plan_of}
 use Rattle.plan.specs.Answer.{Answer, refused_by}
-use Rattle.plan.specs.Read.{zone_count, left_read}
+use Rattle.plan.specs.Read.{left_read}
 use Rattle.plan.specs.Called.{ReadIn, Answered, zones_number, items_number, answer_of, given_by}
 use Rattle.plan.specs.Later.{is_early, lent_early, work_early, items_later}
 use Rattle.plan.specs.CallLaws.{cleared}
@@ -35,29 +35,24 @@ written_none [] = refl
 written_none (x ∷ xs) = append-nil (x ∷ xs)
 
 module _
-    {C R P : ℕ} (s : List ℕ) (items : Items) (pillars pillars' : List Rectangle) (pieces pieces' : Pieces C R P) (rows rows' : List Row)
-    (r : ItemsRead s items pillars pillars' pieces pieces' rows rows') (whole : items_fault s ≡ 0) where
-  pub few_zones_lem : items.zones ≤ 64
+    {V R P : ℕ} (s : List ℕ) (options : GlyphOptions) (pillars pillars' : List Rectangle) (pieces pieces' : Pieces V R P) (rows rows' : List Row)
+    (r : ItemsRead s options pillars pillars' pieces pieces' rows rows') (whole : items_fault s ≡ 0) (no_rows : rows ≡ []) where
+  rows_read : rows' ≡ rows_of s
+  rows_read = rw no_rows at r.put.row
+
+  pub rows_fit_lem : (length rows' ≤ 64) × Every Fits rows'
   unfolding job_of
-  few_zones_lem = omega (arith, r.put.count, zone_count s, (job_known s whole).few_zones)
-
-  rows_read : take items.zones rows' ≡ rows_of s
-  unfolding written
-  rows_read =
-      let long : length (rows_of s) ≡ items.zones = length_are s (zones s) (rows_of s) (rows_are s whole) ∙ zone_count s ∙ sym r.put.count in
-      rw r.put.row (take_at (rows_of s) (drop (length (rows_of s)) rows) items.zones long)
-
-  pub rows_fit_lem : (length (take items.zones rows') ≤ 64) × Every Fits (take items.zones rows')
   rows_fit_lem =
-      let few : length (rows_of s) ≤ 64 = omega (arith, length_are s (zones s) (rows_of s) (rows_are s whole), zone_count s, r.put.count, few_zones_lem) in
+      let few : length (rows_of s) ≤ 64 =
+      omega (arith, length_are s (zones s) (rows_of s) (rows_are s whole), (job_known s whole).few_zones) in
       rw rows_read (few, rows_fit s (zones s) (rows_of s) (rows_are s whole))
 
-  room_read : 15 + rows_room (take items.zones rows') ≡ sheet_room (job_of s)
+  room_read : 15 + rows_room rows' ≡ sheet_room (job_of s)
   room_read = rw rows_read (room_is s whole)
 
   -- where the memory was empty
-  module _ (no_pillars : pillars ≡ []) (no_rings : pieces.rings.items ≡ []) (no_sizes : pieces.sizes.items ≡ []) (no_coords : pieces.coords.items ≡ []) where
-    pub read_in : ReadIn s items.options pillars' (take items.zones rows') pieces'.rings.items pieces'.sizes.items pieces'.coords.items
+  module _ (no_pillars : pillars ≡ []) (no_rings : pieces.rings.items ≡ []) (no_sizes : pieces.sizes.items ≡ []) (no_points : pieces.points.items ≡ []) where
+    pub read_in : ReadIn s options pillars' rows' pieces'.rings.items pieces'.sizes.items pieces'.points.items
     read_in =
         let p = r.put in
         let zs = zones s in
@@ -71,33 +66,33 @@ module _
                 rows_read,
                 (rw no_rings at p.rings) ∙ sym (written_none (rings_of zs)),
                 (rw no_sizes at p.sizes) ∙ sym (written_none (sizes_of zs)),
-                (rw no_coords at p.coords) ∙ sym (written_none (coords_of zs)),
+                (rw no_points at p.points) ∙ sym (written_none (points_of zs)),
               ) (left_read s whole [] [] []);
         }
 
   -- the sheet does not fit
-  lacks_room : (room sheet : ℕ) → room ≡ 15 + rows_room (take items.zones rows') → sheet < room → items_number s sheet ≡ 14
+  lacks_room : (room sheet : ℕ) → room ≡ 15 + rows_room rows' → sheet < room → items_number s sheet ≡ 14
   lacks_room room sheet e h =
       let short : 14 ≡ sheet_fault (job_of s) sheet =
       unfold sheet_fault ◌unless◌ in rw (lt-leb (sheet_room (job_of s)) sheet (omega (arith, e, room_read))) in
       sym (row_clear (items_fault s) (items_fault s) _ refl whole (row_fault 14 (sheet_fault (job_of s) sheet) _ short (λ (z : 14 ≡ 0). omega arith) refl))
 
   -- it does
-  has_room : (room sheet : ℕ) → room ≡ 15 + rows_room (take items.zones rows') → room ≤ sheet → items_number s sheet ≡ zones_number (job_of s)
+  has_room : (room sheet : ℕ) → room ≡ 15 + rows_room rows' → room ≤ sheet → items_number s sheet ≡ zones_number (job_of s)
   has_room room sheet e h =
       let fits : 0 ≡ sheet_fault (job_of s) sheet =
       unfold sheet_fault ◌unless◌ in rw (le-leb (sheet_room (job_of s)) sheet (omega (arith, e, room_read))) in
       sym (row_clear (items_fault s) (items_fault s) _ refl whole (row_clear 0 (sheet_fault (job_of s) sheet) _ fits refl refl))
 
   pub short_answered :
-      (room : ℕ) (sheet : List ℕ) → room ≡ 15 + rows_room (take items.zones rows') → length sheet < room
+      (room : ℕ) (sheet : List ℕ) → room ≡ 15 + rows_room rows' → length sheet < room
       → Answered (items_number s (length sheet)) (job_of s) (refused_by 14) sheet sheet
   short_answered room sheet e h =
       let f = lacks_room room (length sheet) e h in
       record { refused = λ _. (ap refused_by (sym f), refl); given = λ (z : items_number s (length sheet) ≡ 0). absurd (omega (arith, sym f ∙ z)) }
 
   pub zones_answered :
-      (room : ℕ) (answer : Answer) (sheet sheet' : List ℕ) → room ≡ 15 + rows_room (take items.zones rows') → room ≤ length sheet
+      (room : ℕ) (answer : Answer) (sheet sheet' : List ℕ) → room ≡ 15 + rows_room rows' → room ≤ length sheet
       → Answered (zones_number (job_of s)) (job_of s) answer sheet sheet' → Answered (items_number s (length sheet)) (job_of s) answer sheet sheet'
   zones_answered room answer sheet sheet' e h a = subst (λ (x : ℕ). Answered x (job_of s) answer sheet sheet') (sym (has_room room (length sheet) e h)) a
 

@@ -1,6 +1,6 @@
 -- What the code asks of the slices: the pieces, quotas and deepest points lie within them, and no zone is given more marks than it has.
 -- Rests on the sum of a zone's quotas, and on no packer placing more marks than it is asked for.
-use Rattle.std.specs.Prelude.{ℕ, ◌+◌, ◌≤◌, ◌≡◌, refl, Bool, cond, ◌&&◌, ◌||◌, eqb, ltb, drop, Float, None, Some, Option}
+use Rattle.std.specs.Prelude.{ℕ, ◌+◌, ◌≤◌, ◌≡◌, refl, Bool, cond, ◌&&◌, ◌||◌, eqb, ltb, drop, None, Some, Option}
 use Rattle.std.proofs.Math.Path.{sym}
 use Rattle.std.proofs.Common.{ap, ◌∙◌, length-take, length-drop}
 use Rattle.std.proofs.Math.Bool.{true, false, not}
@@ -178,14 +178,14 @@ sum_same [] = refl
 sum_same (x ∷ xs) = omega (arith, sum_same xs)
 
 module _
-    (s : List ℕ) (row : Row) (rows : List Row) (rings sizes : List ℕ) (coords : List Float) (zone : Zone) (zones : List Zone) (at : Offsets)
-    (l : Left s (row ∷ rows) rings sizes coords (zone ∷ zones) at) where
+    (s : List ℕ) (row : Row) (rows : List Row) (rings sizes : List ℕ) (points : List Point) (zone : Zone) (zones : List Zone) (at : Offsets)
+    (l : Left s (row ∷ rows) rings sizes points (zone ∷ zones) at) where
   -- the quotas of a zone left in are its marks
   quota_sum : row_is_left_in row ≡ true → sum (quotas zone) ≡ row.count
   unfolding is_left_in
   quota_sum e =
-      let r = own_row s row rows rings sizes coords zone zones at l in
-      let i : is_left_in zone ≡ true = sym (own_left_in s row rows rings sizes coords zone zones at l) ∙ e in
+      let r = own_row s row rows rings sizes points zone zones at l in
+      let i : is_left_in zone ≡ true = sym (own_left_in s row rows rings sizes points zone zones at l) ∙ e in
       let some = ltb-true 0 (length zone.pieces) (both_true (ltb 0 zone.count) (ltb 0 (length zone.pieces)) i).1 in
       let k = l.known.0 in
       sum_same (quotas zone) ∙ sym (assigned_sum (quotas zone)) ∙ zone_sum zone k.pieces k.few some (rw (← r.count) r.fits.few) ∙ sym r.count
@@ -196,9 +196,9 @@ module _
         omega (
           arith,
           h,
-          ap length (own_shares options s row rows rings sizes coords shares deepest zone zones at l f),
+          ap length (own_shares options s row rows rings sizes points shares deepest zone zones at l f),
           length_quotas zone,
-          (own_row s row rows rings sizes coords zone zones at l).pieces,
+          (own_row s row rows rings sizes points zone zones at l).pieces,
           length-take row.pieces (drop at.piece shares),
           length-drop at.piece shares,
         )
@@ -208,73 +208,73 @@ module _
         omega (
           arith,
           h,
-          ap length (own_deepest options s row rows rings sizes coords shares deepest zone zones at l f),
+          ap length (own_deepest options s row rows rings sizes points shares deepest zone zones at l f),
           length_found_of options zone,
-          (own_row s row rows rings sizes coords zone zones at l).pieces,
+          (own_row s row rows rings sizes points zone zones at l).pieces,
           length-take row.pieces (drop at.piece deepest),
           length-drop at.piece deepest,
         )
 
-    packable : at.piece ≤ length shares → at.piece ≤ length deepest → Packable s rings sizes coords shares deepest row at
+    packable : at.piece ≤ length shares → at.piece ≤ length deepest → Packable s rings sizes points shares deepest row at
     packable p q =
-        let r = own_readable s row rows rings sizes coords zone zones at l in
+        let r = own_readable s row rows rings sizes points zone zones at l in
         record {
           stands = record {
             pieces = r.ringed;
             ring = r.sized;
-            coord = r.within;
+            point = r.within;
             laid = r.laid;
-            points = deepest_fit q;
+            found = deepest_fit q;
             marks = r.marks;
           };
-          key = (own_row s row rows rings sizes coords zone zones at l).inside;
+          key = (own_row s row rows rings sizes points zone zones at l).inside;
           shared = shares_fit p;
-          few = λ (e : row_is_left_in row ≡ true). rw (own_shares options s row rows rings sizes coords shares deepest zone zones at l f, quota_sum e) r.marks;
+          few = λ (e : row_is_left_in row ≡ true). rw (own_shares options s row rows rings sizes points shares deepest zone zones at l f, quota_sum e) r.marks;
         }
 
     fair :
         (numbers : Spreading) (sizing : Option Size) (obstacles : List Rectangle)
-        → Fair numbers sizing options obstacles s rings sizes coords shares deepest row at
+        → Fair numbers sizing options obstacles s rings sizes points shares deepest row at
     unfolding Fair
     fair numbers sizing obstacles e =
         rw (
-          handed_own options s row rows rings sizes coords shares deepest zone zones at l f,
+          handed_own options s row rows rings sizes points shares deepest zone zones at l f,
           ← quota_sum e,
         ) (place_count numbers sizing options obstacles zone)
 
 -- ---- all zones
 
-module _ (options : GlyphOptions) (s rings sizes : List ℕ) (coords : List Float) (shares : List ℕ) (deepest : List Deepest) where
+module _ (options : GlyphOptions) (s rings sizes : List ℕ) (points : List Point) (shares : List ℕ) (deepest : List Deepest) where
   all_packable :
-      (rows : List Row) (zones : List Zone) (at : Offsets) → Left s rows rings sizes coords zones at → Filled options shares deepest zones at
+      (rows : List Row) (zones : List Zone) (at : Offsets) → Left s rows rings sizes points zones at → Filled options shares deepest zones at
       → at.piece ≤ length shares → at.piece ≤ length deepest
-      → EachRow rings sizes (Packable s rings sizes coords shares deepest) rows at
+      → EachRow rings sizes (Packable s rings sizes points shares deepest) rows at
   unfolding EachRow AreRows
   all_packable [] zones at l f p q = tt
   all_packable (row ∷ rows) [] at l f p q = absurd l.are_rows
   all_packable (row ∷ rows) (zone ∷ zones) at l f p q =
       let past = past_piece rings sizes row at in (
-        packable s row rows rings sizes coords zone zones at l options shares deepest f p q,
-        all_packable rows zones (past_row rings sizes row at) (left_next s row rows rings sizes coords zone zones at l)
-            (filled_next options s row rows rings sizes coords shares deepest zone zones at l f)
-            (rw past (shares_fit s row rows rings sizes coords zone zones at l options shares deepest f p))
-            (rw past (deepest_fit s row rows rings sizes coords zone zones at l options shares deepest f q)),
+        packable s row rows rings sizes points zone zones at l options shares deepest f p q,
+        all_packable rows zones (past_row rings sizes row at) (left_next s row rows rings sizes points zone zones at l)
+            (filled_next options s row rows rings sizes points shares deepest zone zones at l f)
+            (rw past (shares_fit s row rows rings sizes points zone zones at l options shares deepest f p))
+            (rw past (deepest_fit s row rows rings sizes points zone zones at l options shares deepest f q)),
       )
 
   pub floor_is :
-      (rows : List Row) (zones : List Zone) → Left s rows rings sizes coords zones start → Filled options shares deepest zones start
-      → Floor s rows rings sizes coords shares deepest
+      (rows : List Row) (zones : List Zone) → Left s rows rings sizes points zones start → Filled options shares deepest zones start
+      → Floor s rows rings sizes points shares deepest
   floor_is rows zones l f = all_packable rows zones start l f (omega arith) (omega arith)
 
   pub all_fair :
       (numbers : Spreading) (sizing : Option Size) (obstacles : List Rectangle) (rows : List Row) (zones : List Zone) (at : Offsets)
-      → Left s rows rings sizes coords zones at → Filled options shares deepest zones at
-      → EachRow rings sizes (Fair numbers sizing options obstacles s rings sizes coords shares deepest) rows at
+      → Left s rows rings sizes points zones at → Filled options shares deepest zones at
+      → EachRow rings sizes (Fair numbers sizing options obstacles s rings sizes points shares deepest) rows at
   unfolding EachRow AreRows
   all_fair numbers sizing obstacles [] zones at l f = tt
   all_fair numbers sizing obstacles (row ∷ rows) [] at l f = absurd l.are_rows
   all_fair numbers sizing obstacles (row ∷ rows) (zone ∷ zones) at l f = (
-    fair s row rows rings sizes coords zone zones at l options shares deepest f numbers sizing obstacles,
-    all_fair numbers sizing obstacles rows zones (past_row rings sizes row at) (left_next s row rows rings sizes coords zone zones at l)
-        (filled_next options s row rows rings sizes coords shares deepest zone zones at l f),
+    fair s row rows rings sizes points zone zones at l options shares deepest f numbers sizing obstacles,
+    all_fair numbers sizing obstacles rows zones (past_row rings sizes row at) (left_next s row rows rings sizes points zone zones at l)
+        (filled_next options s row rows rings sizes points shares deepest zone zones at l f),
   )

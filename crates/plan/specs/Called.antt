@@ -1,8 +1,9 @@
 -- What is asked and answered of a job that was read into flat slices. Definitions only.
-use Rattle.std.specs.Prelude.{ℕ, ◌≡◌, List, length, Float}
+use Rattle.std.specs.Prelude.{ℕ, ◌≡◌, List, length}
 use Rattle.laws.specs.Lists.{written}
 use Rattle.glyphs.specs.Rect.{rectangles}
 use Rattle.glyphs.specs.declared.rect.Rectangle.{Rectangle}
+use Rattle.glyphs.specs.declared.rect.Point.{Point}
 use Rattle.sheet.specs.Sheet.{sheet_of}
 use Rattle.discs.specs.declared.rows.Row.{Row}
 use Rattle.discs.specs.declared.options.GlyphOptions.{GlyphOptions}
@@ -16,12 +17,12 @@ use Rattle.plan.specs.Left.{Left}
 
 -- a job without fault that stands in the slices
 pub record ReadIn
-    (s : List ℕ) (options : GlyphOptions) (obstacles : List Rectangle) (rows : List Row) (rings sizes : List ℕ) (coords : List Float) :
+    (s : List ℕ) (options : GlyphOptions) (obstacles : List Rectangle) (rows : List Row) (rings sizes : List ℕ) (points : List Point) :
     Type 0 where
   pub whole : items_fault s ≡ 0
   pub choices : options ≡ (job_of s).options
   pub pillars : obstacles ≡ rectangles (job_of s).obstacles
-  pub left : Left s rows rings sizes coords (job_of s).zones start
+  pub left : Left s rows rings sizes points (job_of s).zones start
 
 abbrev pub given_by : Placements → Answer
 given_by placements =

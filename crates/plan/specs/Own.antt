@@ -1,9 +1,10 @@
 -- What the flat slices hand in is each zone's own: its key, count and pieces, its quotas, and what the searches found.
 -- Rests on what the reader leaves, and on quotas and deepest points standing zone after zone.
-use Rattle.std.specs.Prelude.{ℕ, ◌+◌, ◌≡◌, refl, length, drop, Float}
+use Rattle.std.specs.Prelude.{ℕ, ◌+◌, ◌≡◌, refl, length, drop}
 use Rattle.std.proofs.Common.{sym, ap, ◌∙◌, arith}
 use mathlib.Core.List.{List, [], ◌∷◌, ◌++◌, append_assoc, map, flat_map}
 use Rattle.std.proofs.lemmas.List.{length-map}
+use Rattle.glyphs.specs.declared.rect.Point.{Point}
 use Rattle.regions.specs.Area.{piece_area}
 use Rattle.format.specs.RowLaws.{behind}
 use Rattle.deepest.specs.declared.search.Deepest.{Deepest}
@@ -45,9 +46,9 @@ pub record Filled (options : GlyphOptions) (shares : List ℕ) (deepest : List D
   pub in_deepest : drop at.piece deepest ≡ flat_map (found_of options) zones ++ rest_deepest
 
 module _
-    (options : GlyphOptions) (s : List ℕ) (row : Row) (rows : List Row) (rings sizes : List ℕ) (coords : List Float) (shares : List ℕ) (deepest : List Deepest)
+    (options : GlyphOptions) (s : List ℕ) (row : Row) (rows : List Row) (rings sizes : List ℕ) (points : List Point) (shares : List ℕ) (deepest : List Deepest)
     (zone : Zone) (zones : List Zone) (at : Offsets)
-    (l : Left s (row ∷ rows) rings sizes coords (zone ∷ zones) at) (f : Filled options shares deepest (zone ∷ zones) at) where
+    (l : Left s (row ∷ rows) rings sizes points (zone ∷ zones) at) (f : Filled options shares deepest (zone ∷ zones) at) where
   shares_here : drop at.piece shares ≡ quotas zone ++ (flat_map quotas zones ++ f.rest_shares)
   unfolding flat_map
   shares_here = f.in_shares ∙ append_assoc (quotas zone) (flat_map quotas zones) f.rest_shares
@@ -57,7 +58,7 @@ module _
   deepest_here = f.in_deepest ∙ append_assoc (found_of options zone) (flat_map (found_of options) zones) f.rest_deepest
 
   few : length zone.pieces ≡ row.pieces
-  few = sym (own_row s row rows rings sizes coords zone zones at l).pieces
+  few = sym (own_row s row rows rings sizes points zone zones at l).pieces
 
   pub own_shares : cut at.piece row.pieces shares ≡ quotas zone
   own_shares = rw shares_here (front (quotas zone) (flat_map quotas zones ++ f.rest_shares) row.pieces (length_quotas zone ∙ few))
@@ -67,11 +68,11 @@ module _
       rw deepest_here
       (front (found_of options zone) (flat_map (found_of options) zones ++ f.rest_deepest) row.pieces (length_found_of options zone ∙ few))
 
-  pub handed_own : handed_at s rings sizes coords shares deepest row at ≡ own_of options zone
+  pub handed_own : handed_at s rings sizes points shares deepest row at ≡ own_of options zone
   unfolding handed_at
   handed_own =
-      let r = own_row s row rows rings sizes coords zone zones at l in
-      rw (r.key, r.count, own_pieces s row rows rings sizes coords zone zones at l, own_shares, own_deepest)
+      let r = own_row s row rows rings sizes points zone zones at l in
+      rw (r.key, r.count, own_pieces s row rows rings sizes points zone zones at l, own_shares, own_deepest)
 
   pub filled_next : Filled options shares deepest zones (past_row rings sizes row at)
   filled_next =
@@ -88,16 +89,16 @@ module _
 
 -- all zones are handed in as their own
 pub handed_zones :
-    (options : GlyphOptions) (s : List ℕ) (rows : List Row) (rings sizes : List ℕ) (coords : List Float) (shares : List ℕ) (deepest : List Deepest)
+    (options : GlyphOptions) (s : List ℕ) (rows : List Row) (rings sizes : List ℕ) (points : List Point) (shares : List ℕ) (deepest : List Deepest)
     (zones : List Zone) (at : Offsets)
-    → Left s rows rings sizes coords zones at → Filled options shares deepest zones at
-    → handed_from s rings sizes coords shares deepest rows at ≡ map (own_of options) zones
+    → Left s rows rings sizes points zones at → Filled options shares deepest zones at
+    → handed_from s rings sizes points shares deepest rows at ≡ map (own_of options) zones
 unfolding handed_from AreRows
-handed_zones options s [] rings sizes coords shares deepest [] at l f = refl
-handed_zones options s [] rings sizes coords shares deepest (zone ∷ zones) at l f = absurd l.are_rows
-handed_zones options s (row ∷ rows) rings sizes coords shares deepest [] at l f = absurd l.are_rows
-handed_zones options s (row ∷ rows) rings sizes coords shares deepest (zone ∷ zones) at l f =
-    rw (handed_own options s row rows rings sizes coords shares deepest zone zones at l f)
+handed_zones options s [] rings sizes points shares deepest [] at l f = refl
+handed_zones options s [] rings sizes points shares deepest (zone ∷ zones) at l f = absurd l.are_rows
+handed_zones options s (row ∷ rows) rings sizes points shares deepest [] at l f = absurd l.are_rows
+handed_zones options s (row ∷ rows) rings sizes points shares deepest (zone ∷ zones) at l f =
+    rw (handed_own options s row rows rings sizes points shares deepest zone zones at l f)
     (ap (λ (t : List Handed). own_of options zone ∷ t)
-    (handed_zones options s rows rings sizes coords shares deepest zones (past_row rings sizes row at) (left_next s row rows rings sizes coords zone zones at l)
-    (filled_next options s row rows rings sizes coords shares deepest zone zones at l f)))
+    (handed_zones options s rows rings sizes points shares deepest zones (past_row rings sizes row at) (left_next s row rows rings sizes points zone zones at l)
+    (filled_next options s row rows rings sizes points shares deepest zone zones at l f)))

@@ -1,6 +1,6 @@
 -- The zones that are put into the sheet are those of the definition, where each is packed as its own.
 -- Rests on what the flat slices hand in being each zone's own.
-use Rattle.std.specs.Prelude.{ℕ, ◌≡◌, Bool, true, false, cond, Float, None, Some, Option}
+use Rattle.std.specs.Prelude.{ℕ, ◌≡◌, Bool, true, false, cond, None, Some, Option}
 use Rattle.std.proofs.Math.Path.{refl}
 use mathlib.Core.List.{List, [], ◌∷◌, ◌++◌, map}
 use Rattle.laws.specs.Any.{all}
@@ -47,7 +47,7 @@ place_own (Some size) options obstacles zone o =
     rw (pack_own 1600 options source (context_at options (pack options) size.radius) obstacles (own_of options zone) o)
 
 module _
-    (sizing : Option Size) (options : GlyphOptions) (obstacles : List Rectangle) (s rings sizes : List ℕ) (coords : List Float) (shares : List ℕ)
+    (sizing : Option Size) (options : GlyphOptions) (obstacles : List Rectangle) (s rings sizes : List ℕ) (points : List Point) (shares : List ℕ)
     (deepest : List Deepest)
     (own :
     (zone : Zone) → is_left_in zone ≡ true → all had_room (found_of options zone) ≡ true
@@ -69,9 +69,9 @@ module _
   first_rest zone zones h = both_true (all had_room (found_of options zone)) (all (λ (zone : Zone). all had_room (found_of options zone)) zones) h
 
   pub placed_are :
-      (rows : List Row) (zones : List Zone) (at : Offsets) → Left s rows rings sizes coords zones at → Filled options shares deepest zones at
+      (rows : List Row) (zones : List Zone) (at : Offsets) → Left s rows rings sizes points zones at → Filled options shares deepest zones at
       → all (λ (zone : Zone). all had_room (found_of options zone)) zones ≡ true
-      → flat_rows rings sizes (placed_at source sizing options obstacles s rings sizes coords shares deepest) rows at ≡ map put (work_of zones)
+      → flat_rows rings sizes (placed_at source sizing options obstacles s rings sizes points shares deepest) rows at ≡ map put (work_of zones)
   unfolding flat_rows placed_at work_of AreRows
   placed_are [] [] at l f h = refl
   placed_are [] (zone ∷ zones) at l f h = absurd l.are_rows
@@ -79,7 +79,7 @@ module _
   placed_are (row ∷ rows) (zone ∷ zones) at l f h =
       let p = first_rest zone zones h in
       let next = past_row rings sizes row at in
-      rw (own_left_in s row rows rings sizes coords zone zones at l, handed_own options s row rows rings sizes coords shares deepest zone zones at l f)
+      rw (own_left_in s row rows rings sizes points zone zones at l, handed_own options s row rows rings sizes points shares deepest zone zones at l f)
       (one_placed zone (work_of zones) _ (is_left_in zone) refl p.0
-      (placed_are rows zones next (left_next s row rows rings sizes coords zone zones at l)
-      (filled_next options s row rows rings sizes coords shares deepest zone zones at l f) p.1))
+      (placed_are rows zones next (left_next s row rows rings sizes points zone zones at l)
+      (filled_next options s row rows rings sizes points shares deepest zone zones at l f) p.1))

@@ -1,7 +1,6 @@
 -- What is put into the sheet for each zone, from what the flat slices hand in. Definitions only.
-use Rattle.std.specs.Prelude.{ℕ, ◌+◌, ◌-◌, ◌≤◌, ◌≡◌, true, cond, length, Float, None, Some, Option}
+use Rattle.std.specs.Prelude.{ℕ, ◌-◌, ◌≤◌, ◌≡◌, true, cond, None, Some, Option}
 use mathlib.Core.List.{List, [], ◌∷◌, flatten, flat_map}
-use Rattle.std.proofs.lemmas.List.Edits.{sets}
 use Rattle.glyphs.specs.Spots.{flat}
 use Rattle.glyphs.specs.declared.rect.Point.{Point}
 use Rattle.glyphs.specs.declared.rect.Rectangle.{Rectangle}
@@ -31,14 +30,14 @@ placement_for numbers sizing options obstacles handed =
     }
 
 module _
-    (numbers : Spreading) (sizing : Option Size) (options : GlyphOptions) (obstacles : List Rectangle) (s rings sizes : List ℕ) (coords : List Float)
+    (numbers : Spreading) (sizing : Option Size) (options : GlyphOptions) (obstacles : List Rectangle) (s rings sizes : List ℕ) (points : List Point)
     (quotas : List ℕ) (deepest : List Deepest) where
   abbrev pub spots_at : Row → Offsets → List (List Point)
-  spots_at row at = place_for numbers sizing options obstacles (handed_at s rings sizes coords quotas deepest row at)
+  spots_at row at = place_for numbers sizing options obstacles (handed_at s rings sizes points quotas deepest row at)
 
   -- a zone of the sheet, where it is left in
   unfoldable pub placed_at : Row → Offsets → List Placement
-  placed_at row at = cond (row_is_left_in row) (placement_for numbers sizing options obstacles (handed_at s rings sizes coords quotas deepest row at) ∷ []) []
+  placed_at row at = cond (row_is_left_in row) (placement_for numbers sizing options obstacles (handed_at s rings sizes points quotas deepest row at) ∷ []) []
 
   unfoldable pub bytes_at : Row → Offsets → List ℕ
   bytes_at row at = flat_map placement_bytes (placed_at row at)
@@ -46,8 +45,3 @@ module _
   -- no more marks are placed than the zone has
   unfoldable pub Fair : Row → Offsets → Type 0
   Fair row at = row_is_left_in row ≡ true → placed_in (spots_at row at) ≤ row.count
-
--- a part of the sheet that was put at `at`, up to `to`
-pub record Put (bytes : List ℕ) (at to : ℕ) (sheet sheet' : List ℕ) : Type 0 where
-  pub ends : to ≡ at + length bytes
-  pub put : sheet' ≡ sets sheet at bytes

@@ -1,11 +1,12 @@
 -- What the reader leaves is the job's zones, and what the pre-pass finds over the rows is found over the zones: row 15 is the definition's.
 -- Rests on the rows being the zones', and on one zone's share of each slice.
-use Rattle.std.specs.Prelude.{ℕ, ◌+◌, ◌≡◌, Bool, true, false, length, drop, Float}
+use Rattle.std.specs.Prelude.{ℕ, ◌+◌, ◌≡◌, Bool, true, false, length, drop}
 use Rattle.std.proofs.Math.Path.{refl}
 use mathlib.Core.List.{List, [], ◌∷◌, flat_map}
 use Rattle.std.proofs.Common.{arith}
 use Rattle.laws.specs.Any.{all}
 use Rattle.laws.specs.Lists.{written}
+use Rattle.glyphs.specs.declared.rect.Point.{Point}
 use Rattle.regions.specs.Ring.{Piece}
 use Rattle.format.specs.Rows.{◌unless◌}
 use Rattle.format.specs.Numbers.{u16}
@@ -19,7 +20,7 @@ use Rattle.discs.specs.PlaceGlyphs.{is_left_in, work_of}
 use Rattle.discs.specs.Searches.{searches_in, had_room}
 use Rattle.discs.specs.Floor.{past_row, start}
 use Rattle.job.specs.Zones.{zone, zone_end}
-use Rattle.job.specs.Job.{Job, zones_at, zones, items_fault, job_of, coords_of, sizes_of, rings_of, rows_of}
+use Rattle.job.specs.Job.{Job, zones_at, zones, items_fault, job_of, points_of, sizes_of, rings_of, rows_of}
 use Rattle.job.specs.Rows.{AreRows, rows_are}
 use Rattle.job.proofs.Known.{job_known}
 use Rattle.job.specs.Plan.{search_fault}
@@ -34,40 +35,40 @@ zone_count s = length_each (zone_end s) (zone s) (u16 s (zones_at s)) (zones_at 
 
 -- the slices that the reader leaves
 pub left_read :
-    (s : List ℕ) → items_fault s ≡ 0 → (rings sizes : List ℕ) (coords : List Float)
-    → Left s (rows_of s) (written (rings_of (zones s)) rings) (written (sizes_of (zones s)) sizes) (written (coords_of (zones s)) coords) (zones s) start
+    (s : List ℕ) → items_fault s ≡ 0 → (rings sizes : List ℕ) (points : List Point)
+    → Left s (rows_of s) (written (rings_of (zones s)) rings) (written (sizes_of (zones s)) sizes) (written (points_of (zones s)) points) (zones s) start
 unfolding written
-left_read s ok rings sizes coords =
+left_read s ok rings sizes points =
     record {
       are_rows = rows_are s ok;
       rest_rings = drop (length (rings_of (zones s))) rings;
       rest_sizes = drop (length (sizes_of (zones s))) sizes;
-      rest_coords = drop (length (coords_of (zones s))) coords;
+      rest_points = drop (length (points_of (zones s))) points;
       in_rings = refl;
       in_sizes = refl;
-      in_coords = refl;
+      in_points = refl;
       piece = omega arith;
       ring = omega arith;
-      coord = omega arith;
+      point = omega arith;
       known = unfold job_of in (job_known s ok).zones;
     }
 
-module _ (options : GlyphOptions) (s rings sizes : List ℕ) (coords : List Float) (shares : List ℕ) (deepest : List Deepest) where
+module _ (options : GlyphOptions) (s rings sizes : List ℕ) (points : List Point) (shares : List ℕ) (deepest : List Deepest) where
   found_own :
-      (row : Row) (rows : List Row) (zone : Zone) (zones : List Zone) (at : Offsets) → Left s (row ∷ rows) rings sizes coords (zone ∷ zones) at
+      (row : Row) (rows : List Row) (zone : Zone) (zones : List Zone) (at : Offsets) → Left s (row ∷ rows) rings sizes points (zone ∷ zones) at
       → Filled options shares deepest (zone ∷ zones) at
-      → found_at rings sizes coords options shares row at ≡ found_of options zone
+      → found_at rings sizes points options shares row at ≡ found_of options zone
   unfolding found_at found_of
   found_own row rows zone zones at l f =
       rw (
-        own_left_in s row rows rings sizes coords zone zones at l,
-        own_pieces s row rows rings sizes coords zone zones at l,
-        own_shares options s row rows rings sizes coords shares deepest zone zones at l f,
+        own_left_in s row rows rings sizes points zone zones at l,
+        own_pieces s row rows rings sizes points zone zones at l,
+        own_shares options s row rows rings sizes points shares deepest zone zones at l f,
       )
 
   pub founds_are :
-      (rows : List Row) (zones : List Zone) (at : Offsets) → Left s rows rings sizes coords zones at → Filled options shares deepest zones at
-      → flat_rows rings sizes (found_at rings sizes coords options shares) rows at ≡ flat_map (found_of options) zones
+      (rows : List Row) (zones : List Zone) (at : Offsets) → Left s rows rings sizes points zones at → Filled options shares deepest zones at
+      → flat_rows rings sizes (found_at rings sizes points options shares) rows at ≡ flat_map (found_of options) zones
   unfolding flat_rows flat_map AreRows
   founds_are [] [] at l f = refl
   founds_are [] (zone ∷ zones) at l f = absurd l.are_rows
@@ -75,13 +76,13 @@ module _ (options : GlyphOptions) (s rings sizes : List ℕ) (coords : List Floa
   founds_are (row ∷ rows) (zone ∷ zones) at l f =
       rw (
         found_own row rows zone zones at l f,
-        founds_are rows zones (past_row rings sizes row at) (left_next s row rows rings sizes coords zone zones at l)
-            (filled_next options s row rows rings sizes coords shares deepest zone zones at l f),
+        founds_are rows zones (past_row rings sizes row at) (left_next s row rows rings sizes points zone zones at l)
+            (filled_next options s row rows rings sizes points shares deepest zone zones at l f),
       )
 
   pub fits_are :
-      (rows : List Row) (zones : List Zone) (at : Offsets) → Left s rows rings sizes coords zones at → Filled options shares deepest zones at
-      → all_rows rings sizes (fits_at rings sizes coords options shares) rows at ≡ all (λ (zone : Zone). all had_room (found_of options zone)) zones
+      (rows : List Row) (zones : List Zone) (at : Offsets) → Left s rows rings sizes points zones at → Filled options shares deepest zones at
+      → all_rows rings sizes (fits_at rings sizes points options shares) rows at ≡ all (λ (zone : Zone). all had_room (found_of options zone)) zones
   unfolding all_rows all fits_at AreRows
   fits_are [] [] at l f = refl
   fits_are [] (zone ∷ zones) at l f = absurd l.are_rows
@@ -89,8 +90,8 @@ module _ (options : GlyphOptions) (s rings sizes : List ℕ) (coords : List Floa
   fits_are (row ∷ rows) (zone ∷ zones) at l f =
       rw (
         found_own row rows zone zones at l f,
-        fits_are rows zones (past_row rings sizes row at) (left_next s row rows rings sizes coords zone zones at l)
-            (filled_next options s row rows rings sizes coords shares deepest zone zones at l f),
+        fits_are rows zones (past_row rings sizes row at) (left_next s row rows rings sizes points zone zones at l)
+            (filled_next options s row rows rings sizes points shares deepest zone zones at l f),
       )
 
 -- ---- row 15

@@ -1,15 +1,17 @@
 -- The walk over a job's zones in flat slices: what is put and asked for each, and what is known of each. Definitions, and one turn of the walk.
 -- Rests on the kit's laws of lists.
-use Rattle.std.specs.Prelude.{ℕ, zero, suc, ◌+◌, ◌-◌, ◌≤◌, ◌≡◌, refl, Bool, true, false, ◌&&◌, take, drop, replicate, Float}
-use Rattle.std.proofs.Common.{sym, ap, ◌∙◌, arith, drop-drop, length-drop, length-take-le}
+use Rattle.std.specs.Prelude.{ℕ, zero, suc, ◌+◌, ◌-◌, ◌≤◌, ◌≡◌, refl, Bool, true, false, ◌&&◌, take, drop, replicate}
+use Rattle.std.proofs.Common.{sym, ap, ◌∙◌, append-nil, arith, drop-drop, drop_of_length-le, length-drop, length-take-le}
 use mathlib.Core.List.{List, [], ◌∷◌, ◌++◌, append_assoc}
 use native.Mathlib.Bridge.{le_prop}
 use Rattle.std.proofs.Math.ListN.{length, length-append}
 use Rattle.std.proofs.lemmas.List.Edits.{sets, sets-eq}
 use Rattle.laws.specs.Any.{all}
+use Rattle.laws.specs.Lists.{written}
 use Rattle.glyphs.specs.Apportion.{apportion}
+use Rattle.glyphs.specs.declared.rect.Point.{Point}
 use Rattle.regions.specs.Ring.{Piece}
-use Rattle.format.specs.RowLaws.{sets_append}
+use Rattle.format.specs.RowLaws.{sets_append, sets_written}
 use Rattle.deepest.specs.declared.search.Deepest.{Deepest}
 use Rattle.deepest.specs.declared.search.Deepest.TheVariants.{Nothing}
 use Rattle.discs.specs.declared.options.GlyphOptions.{GlyphOptions}
@@ -19,44 +21,50 @@ use Rattle.discs.specs.declared.rows.Offsets.{Offsets}
 use Rattle.discs.specs.Region.{areas}
 use Rattle.discs.specs.Pieces.{pieces_of, Laid, laid_prop}
 use Rattle.discs.specs.Searches.{had_room}
-use Rattle.discs.specs.Floor.{row_is_left_in, cut, start, past_row, EachRow, Steps}
+use Rattle.discs.specs.Floor.{row_is_left_in, cut, start, past_row, EachRow, Within, Steps}
 use Rattle.job.specs.Job.{row_room, rows_room}
 use Rattle.plan.specs.Found.{found_for, found_in}
 use Rattle.plan.specs.Walk.{length_pieces}
 use Rattle.plan.specs.Shares.{length_apportion, length_areas}
 
 -- a zone's pieces lie within the slices, and they and its marks are few
-pub record Readable (rings sizes : List ℕ) (coords : List Float) (row : Row) (at : Offsets) : Type 0 where
+pub record Readable (rings sizes : List ℕ) (points : List Point) (row : Row) (at : Offsets) : Type 0 where
   pub ringed : at.piece + row.pieces ≤ length rings
   pub sized : at.ring ≤ length sizes
-  pub within : at.coord ≤ length coords
-  pub laid : Laid (cut at.piece row.pieces rings) (drop at.ring sizes) (drop at.coord coords)
+  pub within : at.point ≤ length points
+  pub laid : Laid (cut at.piece row.pieces rings) (drop at.ring sizes) (drop at.point points)
   pub few : row.pieces ≤ 16
   pub marks : row.count ≤ 2000
 
 -- each zone's do
-abbrev pub AllReadable : List ℕ → List ℕ → List Float → List Row → Type 0
-AllReadable rings sizes coords rows = EachRow rings sizes (Readable rings sizes coords) rows start
+abbrev pub AllReadable : List ℕ → List ℕ → List Point → List Row → Type 0
+AllReadable rings sizes points rows = EachRow rings sizes (Readable rings sizes points) rows start
 
-readable_prop : (rings sizes : List ℕ) (coords : List Float) (row : Row) (at : Offsets) → IsProp (Readable rings sizes coords row at)
-readable_prop rings sizes coords row at a b = λ i. record {
+readable_prop : (rings sizes : List ℕ) (points : List Point) (row : Row) (at : Offsets) → IsProp (Readable rings sizes points row at)
+readable_prop rings sizes points row at a b = λ i. record {
   ringed = le_prop a.ringed b.ringed i;
   sized = le_prop a.sized b.sized i;
   within = le_prop a.within b.within i;
-  laid = laid_prop (cut at.piece row.pieces rings) (drop at.ring sizes) (drop at.coord coords) a.laid b.laid i;
+  laid = laid_prop (cut at.piece row.pieces rings) (drop at.ring sizes) (drop at.point points) a.laid b.laid i;
   few = le_prop a.few b.few i;
   marks = le_prop a.marks b.marks i;
 }
 
 -- that all are readable is a fact that has one proof at most
-each_prop : (rings sizes : List ℕ) (coords : List Float) (rows : List Row) (at : Offsets) → IsProp (EachRow rings sizes (Readable rings sizes coords) rows at)
+each_prop : (rings sizes : List ℕ) (points : List Point) (rows : List Row) (at : Offsets) → IsProp (EachRow rings sizes (Readable rings sizes points) rows at)
 unfolding EachRow
-each_prop rings sizes coords [] at a b = λ i. tt
-each_prop rings sizes coords (row ∷ rows) at a b =
-    λ i. (readable_prop rings sizes coords row at a.0 b.0 i, each_prop rings sizes coords rows (past_row rings sizes row at) a.1 b.1 i)
+each_prop rings sizes points [] at a b = λ i. tt
+each_prop rings sizes points (row ∷ rows) at a b =
+    λ i. (readable_prop rings sizes points row at a.0 b.0 i, each_prop rings sizes points rows (past_row rings sizes row at) a.1 b.1 i)
 
-pub rows_prop : (rings sizes : List ℕ) (coords : List Float) (rows : List Row) → IsProp (AllReadable rings sizes coords rows)
-rows_prop rings sizes coords rows = each_prop rings sizes coords rows start
+pub rows_prop : (rings sizes : List ℕ) (points : List Point) (rows : List Row) → IsProp (AllReadable rings sizes points rows)
+rows_prop rings sizes points rows = each_prop rings sizes points rows start
+
+-- it lies within the slices, as a layout says of each
+pub lies_within :
+    {rings sizes : List ℕ} {points : List Point} {row : Row} {at : Offsets}
+    → Readable rings sizes points row at → Within rings sizes points row at
+lies_within r = record { pieces = r.ringed; ring = r.sized; point = r.within; laid = r.laid }
 
 module _ (rings sizes : List ℕ) where
   -- what the zones of these rows have, end to end
@@ -69,9 +77,9 @@ module _ (rings sizes : List ℕ) where
   all_rows test [] at = true
   all_rows test (row ∷ rows) at = test row at && all_rows test rows (past_row rings sizes row at)
 
-module _ (rings sizes : List ℕ) (coords : List Float) where
+module _ (rings sizes : List ℕ) (points : List Point) where
   abbrev pub pieces_at : Row → Offsets → List Piece
-  pieces_at row at = pieces_of (cut at.piece row.pieces rings) (drop at.ring sizes) (drop at.coord coords)
+  pieces_at row at = pieces_of (cut at.piece row.pieces rings) (drop at.ring sizes) (drop at.point points)
 
   -- the quotas of a zone's pieces
   unfoldable pub shares_at : Row → Offsets → List ℕ
@@ -99,6 +107,13 @@ part_put l xs p n e h =
     let k : p + n - p ≡ length xs = omega (arith, e) in
     rw (k, drop-drop (length xs) p l) (sym (sets-eq xs l p (omega (arith, e, h)) ∙ append_assoc (take p l) xs (drop (p + length xs) l)))
 
+-- a part that is written whole
+pub sets_whole : {A : Type 0} (xs l : List A) → length l ≡ length xs → sets l 0 xs ≡ xs
+unfolding written
+sets_whole xs l e =
+    let h : length l ≤ length xs = omega (arith, e) in
+    sets_written xs l (omega (arith, e)) ∙ rw (drop_of_length-le l h) (append-nil xs)
+
 pub length_found :
     (options : GlyphOptions) (left_in : Bool) (pieces : List Piece) (quotas : List ℕ) → length pieces ≤ length quotas
     → length (found_in options left_in pieces quotas) ≡ length pieces
@@ -121,23 +136,28 @@ unfolding all had_room
 none_fit zero = refl
 none_fit (suc n) = none_fit n
 
-module _ (rings sizes : List ℕ) (coords : List Float) (row : Row) (at : Offsets) (h : at.piece + row.pieces ≤ length rings) where
-  pub length_shares : length (shares_at rings sizes coords row at) ≡ row.pieces
+module _ (rings sizes : List ℕ) (points : List Point) (row : Row) (at : Offsets) (h : at.piece + row.pieces ≤ length rings) where
+  pub length_shares : length (shares_at rings sizes points row at) ≡ row.pieces
   unfolding shares_at
   length_shares =
-      length_apportion row.count (areas (pieces_at rings sizes coords row at))
-      ∙ length_areas (cut at.piece row.pieces rings) (drop at.ring sizes) (drop at.coord coords)
+      length_apportion row.count (areas (pieces_at rings sizes points row at))
+      ∙ length_areas (cut at.piece row.pieces rings) (drop at.ring sizes) (drop at.point points)
       ∙ length_cut at.piece row.pieces rings h
+
+  pub length_found_in :
+      (options : GlyphOptions) (left_in : Bool) (quotas : List ℕ) → at.piece + row.pieces ≤ length quotas
+      → length (found_in options left_in (pieces_at rings sizes points row at) (cut at.piece row.pieces quotas)) ≡ row.pieces
+  length_found_in options left_in quotas q =
+      let p : length (pieces_at rings sizes points row at) ≡ row.pieces =
+      length_pieces (cut at.piece row.pieces rings) (drop at.ring sizes) (drop at.point points) ∙ length_cut at.piece row.pieces rings h in
+      let n = length_cut at.piece row.pieces quotas q in
+      length_found options left_in (pieces_at rings sizes points row at) (cut at.piece row.pieces quotas) (omega arith) ∙ p
 
   pub length_found_at :
       (options : GlyphOptions) (quotas : List ℕ) → at.piece + row.pieces ≤ length quotas
-      → length (found_at rings sizes coords options quotas row at) ≡ row.pieces
+      → length (found_at rings sizes points options quotas row at) ≡ row.pieces
   unfolding found_at
-  length_found_at options quotas q =
-      let p : length (pieces_at rings sizes coords row at) ≡ row.pieces =
-      length_pieces (cut at.piece row.pieces rings) (drop at.ring sizes) (drop at.coord coords) ∙ length_cut at.piece row.pieces rings h in
-      let n = length_cut at.piece row.pieces quotas q in
-      length_found options (row_is_left_in row) (pieces_at rings sizes coords row at) (cut at.piece row.pieces quotas) (omega arith) ∙ p
+  length_found_at options quotas q = length_found_in options (row_is_left_in row) quotas q
 
 pub past_piece : (rings sizes : List ℕ) (row : Row) (at : Offsets) → (past_row rings sizes row at).piece ≡ at.piece + row.pieces
 unfolding past_row

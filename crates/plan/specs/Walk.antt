@@ -1,6 +1,6 @@
 -- One turn of a walk over pieces: the piece at hand, its rings within the slice, and those behind it.
 -- Rests on the kit's laws of lists.
-use Rattle.std.specs.Prelude.{ℕ, suc, ◌+◌, ◌-◌, ◌*◌, ◌<◌, ◌≤◌, ◌≡◌, refl, Bool, true, false, length, get_or, take, drop, set, Float}
+use Rattle.std.specs.Prelude.{ℕ, suc, ◌+◌, ◌-◌, ◌<◌, ◌≤◌, ◌≡◌, refl, Bool, true, false, length, get_or, take, drop, set, Float}
 use Rattle.std.specs.Prelude.{Result, Ok, Err, IsErr, is_ok}
 use Rattle.std.proofs.Common.{ap, ◌∙◌, arith, take_all}
 use mathlib.Core.List.{List, [], ◌∷◌}
@@ -10,6 +10,7 @@ use Rattle.std.proofs.Math.ListN.{length-drop}
 use Rattle.std.proofs.Math.Seq.{drop-cons}
 use Rattle.std.proofs.lemmas.List.Edits.{sets}
 use Rattle.laws.specs.Any.{all}
+use Rattle.glyphs.specs.declared.rect.Point.{Point}
 use Rattle.regions.specs.Ring.{Piece, sum}
 use Rattle.regions.specs.Area.{piece_area}
 use Rattle.deepest.specs.declared.search.Deepest.{Deepest}
@@ -32,17 +33,17 @@ no_room (Err none) h = refl
 pub rest_is : {A : Type 0} (l : List A) (a : ℕ) → take (length l - a) (drop a l) ≡ drop a l
 rest_is l a = take_all (length l - a) (drop a l) (simp length-drop (omega arith))
 
-pub length_pieces : (rings sizes : List ℕ) (coords : List Float) → length (pieces_of rings sizes coords) ≡ length rings
+pub length_pieces : (rings sizes : List ℕ) (points : List Point) → length (pieces_of rings sizes points) ≡ length rings
 unfolding pieces_of
-length_pieces [] sizes coords = refl
-length_pieces (n ∷ rings) sizes coords = ap suc (length_pieces rings (drop n sizes) (drop (sum (take n sizes) * 2) coords))
+length_pieces [] sizes points = refl
+length_pieces (n ∷ rings) sizes points = ap suc (length_pieces rings (drop n sizes) (drop (sum (take n sizes)) points))
 
 -- the rings of the piece k, of pieces that lie in slices from a on
 pub ring_inside :
-    (rings sizes : List ℕ) (coords : List Float) (k a : ℕ) → k < length rings → a ≤ length sizes → Laid (drop k rings) (drop a sizes) coords
+    (rings sizes : List ℕ) (points : List Point) (k a : ℕ) → k < length rings → a ≤ length sizes → Laid (drop k rings) (drop a sizes) points
     → a + get_or rings k 0 ≤ length sizes
 unfolding Laid
-ring_inside rings sizes coords k a h i l =
+ring_inside rings sizes points k a h i l =
     let lies = (rw (drop-cons rings k 0 h) at l).0 in
     omega (arith, lies.sized, length-drop a sizes)
 

@@ -20,6 +20,7 @@ use Rattle.rounding.specs.Signs.{Nonneg, zero_num, zero_val}
 use Rattle.rounding.specs.Selection.{max_zero_same}
 use Rattle.glyphs.specs.Rect.{is_finite, rectangles, sanitize_obstacles}
 use Rattle.glyphs.specs.declared.rect.Rectangle.{Rectangle}
+use Rattle.glyphs.specs.declared.rect.Point.{Point}
 use Rattle.format.specs.Numbers.{share}
 use Rattle.format.specs.Exact.{share_exact, share_value}
 use Rattle.sheet.specs.Sheet.{Placement, Sheet}
@@ -194,27 +195,27 @@ module _ (options : GlyphOptions) (given : List Rectangle) (zones : List Zone) w
 
 -- ---- a job as it lies in the slices, each of whose searches had room
 module _
-    (s : List ℕ) (rows : List Row) (rings sizes : List ℕ) (coords : List Float) (shares : List ℕ) (deepest : List Deepest) (job : Job)
+    (s : List ℕ) (rows : List Row) (rings sizes : List ℕ) (points : List Point) (shares : List ℕ) (deepest : List Deepest) (job : Job)
     (k : RadiusKnown job.options.radius) (r : Roomy job.options job.zones)
-    (l : Left s rows rings sizes coords job.zones start) (f : Filled job.options shares deepest job.zones start) where
+    (l : Left s rows rings sizes points job.zones start) (f : Filled job.options shares deepest job.zones start) where
   abbrev given : List Rectangle
   given = rectangles job.obstacles
 
   abbrev pub sized : Option Size
-  sized = sizing_for source job.options (sanitize_obstacles (rectangles job.obstacles)) (work_in s rows rings sizes coords shares deepest)
+  sized = sizing_for source job.options (sanitize_obstacles (rectangles job.obstacles)) (work_in s rows rings sizes points shares deepest)
 
   abbrev pub put : List Placement
   put =
-      flat_rows rings sizes (placed_at source sized job.options (sanitize_obstacles (rectangles job.obstacles)) s rings sizes coords shares deepest) rows start
+      flat_rows rings sizes (placed_at source sized job.options (sanitize_obstacles (rectangles job.obstacles)) s rings sizes points shares deepest) rows start
 
-  work_is : work_in s rows rings sizes coords shares deepest ≡ handed_work (map (own_of job.options) job.zones)
-  work_is = ap handed_work (handed_zones job.options s rows rings sizes coords shares deepest job.zones start l f)
+  work_is : work_in s rows rings sizes points shares deepest ≡ handed_work (map (own_of job.options) job.zones)
+  work_is = ap handed_work (handed_zones job.options s rows rings sizes points shares deepest job.zones start l f)
 
   size_is : sized ≡ sizing room source job.options given job.zones
   size_is = ap (λ (hs : List Handed). sizing_for source job.options (sanitize_obstacles given) hs) work_is ∙ sizing_is job.options job.zones r given
 
   -- row 16
-  pub low_is : low_fault (ceiling_for job.options (work_in s rows rings sizes coords shares deepest) job.options.radius) ≡ ceiling_fault job
+  pub low_is : low_fault (ceiling_for job.options (work_in s rows rings sizes points shares deepest) job.options.radius) ≡ ceiling_fault job
   unfolding ceiling_fault
   low_is = ap low_fault (ap (λ (hs : List Handed). ceiling_for job.options hs job.options.radius) work_is ∙ ceiling_is job.options job.zones r)
 
@@ -224,7 +225,7 @@ module _
 
   put_is : put ≡ map placement_of (map (placed_of sized job.options (sanitize_obstacles given)) (work_of job.zones))
   put_is =
-      placed_are sized job.options (sanitize_obstacles given) s rings sizes coords shares deepest own rows job.zones start l f r
+      placed_are sized job.options (sanitize_obstacles given) s rings sizes points shares deepest own rows job.zones start l f r
       ∙ sym (map-map placement_of (placed_of sized job.options (sanitize_obstacles given)) (work_of job.zones))
     where
       own :

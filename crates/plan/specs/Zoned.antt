@@ -6,6 +6,7 @@ use Rattle.std.proofs.Math.Path.{ap}
 use Rattle.std.proofs.lemmas.List.Edits.{sets}
 use Rattle.std.proofs.Math.Seq.{length-sets}
 use Rattle.glyphs.specs.declared.rect.Rectangle.{Rectangle}
+use Rattle.glyphs.specs.declared.rect.Point.{Point}
 use Rattle.discs.specs.declared.rows.Row.{Row}
 use Rattle.discs.specs.Floor.{Lends, start}
 use Rattle.plan.specs.Rows.{flat_rows, shares_at}
@@ -13,9 +14,9 @@ use Rattle.plan.specs.Rows.{flat_rows, shares_at}
 -- ---- the slices
 
 pub shares_long :
-    (rows : List Row) (rings sizes : List ℕ) (coords : List Float) (shares₀ shares : List ℕ)
-    → shares ≡ sets shares₀ 0 (flat_rows rings sizes (shares_at rings sizes coords) rows start) → length shares ≡ length shares₀
-shares_long rows rings sizes coords shares₀ shares e = ap length e ∙ length-sets shares₀ 0 (flat_rows rings sizes (shares_at rings sizes coords) rows start)
+    (rows : List Row) (rings sizes : List ℕ) (points : List Point) (shares₀ shares : List ℕ)
+    → shares ≡ sets shares₀ 0 (flat_rows rings sizes (shares_at rings sizes points) rows start) → length shares ≡ length shares₀
+shares_long rows rings sizes points shares₀ shares e = ap length e ∙ length-sets shares₀ 0 (flat_rows rings sizes (shares_at rings sizes points) rows start)
 
 pub pillars_lend :
     (m : ℕ) (obstacles pillars near : List Rectangle) (second : List Float) (flags : List Bool) (spots : List Float)

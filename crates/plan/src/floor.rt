@@ -20,7 +20,7 @@ use discs::options::{GlyphOptions, Radius};
 use discs::radius::{Size, size_for};
 use discs::trial::boundary_gap_of;
 use format::refusal::Refusal;
-use sheet::put_head;
+use sheet::Writer;
 
 // The ceiling, which only an automatic radius has.
 fn ceiling_of(options: GlyphOptions, zones: Zones<'_>) -> Option<f64>
@@ -29,14 +29,7 @@ fn ceiling_of(options: GlyphOptions, zones: Zones<'_>) -> Option<f64>
     let radius = options.radius;
     match radius {
         Radius::Stated(_) => None,
-        Radius::Auto => analytic_r_hi(
-            boundary_gap_of(options),
-            zones.rows,
-            zones.rings,
-            zones.sizes,
-            zones.coords,
-            zones.deepest,
-        ),
+        Radius::Auto => analytic_r_hi(boundary_gap_of(options), zones.layout, zones.deepest),
     }
 }
 
@@ -73,17 +66,17 @@ fn put_sheet(
 ) -> Planned
     requires near { length setting.packing.obstacles.now ≤ length work.old.lent.near.now }
     requires fair { AllFair setting zones }
-    requires room { 15 + rows_room zones.rows.now ≤ length sheet.old }
-    requires few { length zones.rows.now ≤ 64 }
+    requires room { 15 + rows_room zones.layout.rows.now ≤ length sheet.old }
     ensures answer { answer_in (Ok result) ≡ answer_to setting.entry.size (all_placed setting.entry zones.entry) }
     ensures sheet { sheet.new ≡ written (sheet_of (sheet_to setting.entry.size (all_placed setting.entry zones.entry))) sheet.old }
     ensures same { SameWork work.old work.new }
 {
-    let done = put_zones(setting, zones, work, &mut sheet[..]);
+    let mut writer = Writer::new(&mut sheet[..]);
+    put_zones(setting, zones, work, &mut writer);
     let size = size_of(setting.size);
-    put_head(&mut sheet[..], done.at - 4, size.radius, done.zones);
+    writer.put_head(size.radius);
     Planned {
-        length: done.at,
+        length: writer.at,
         free_trials: size.free_trials,
         obstacle_trials: size.obstacle_trials,
     }
@@ -98,8 +91,7 @@ pub fn plan_pieces(
 ) -> Result<Planned, Refusal>
     requires near { length packing.obstacles.now ≤ length work.old.lent.near.now }
     requires fair { (size : Option Size) → AllFair (record { packing = packing; size = size }) zones }
-    requires room { 15 + rows_room zones.rows.now ≤ length sheet.old }
-    requires few { length zones.rows.now ≤ 64 }
+    requires room { 15 + rows_room zones.layout.rows.now ≤ length sheet.old }
     ensures planned { PiecesPlanned packing.entry zones.entry (answer_in result) sheet.old sheet.new }
     ensures same { SameWork work.old work.new }
 {

@@ -11,10 +11,10 @@ ghost use Rattle.plan.specs.Called.{items_number, Answered, answer_of};
 pub mod answer;
 pub mod clear;
 pub mod floor;
-pub mod layout;
 pub mod memory;
 pub mod parts;
 pub mod pillars;
+pub mod read;
 pub mod rows;
 pub mod searches;
 pub mod setting;
@@ -23,12 +23,12 @@ pub mod zones;
 
 use crate::answer::Planned;
 use crate::clear::clear;
-use crate::layout::{Layout, ReadJob};
 use crate::memory::{Memory, Scratch};
+use crate::read::ReadJob;
 use crate::rows::plan_zones;
 use arrayvec::ArrayVec;
 use deepest::search::Deepest;
-use discs::rows::Row;
+use discs::layout::Layout;
 use format::pieces::JobPieces;
 use format::reader::Reader;
 use format::refusal::Refusal;
@@ -48,18 +48,19 @@ fn plan_items(
     requires at { job.at ≡ version_at }
     requires bytes { length job.bytes.now ≤ 65536 }
     requires obstacles { memory.old.obstacles.items ≡ [] }
-    requires coords { memory.old.pieces.coords.items ≡ [] }
+    requires points { memory.old.pieces.points.items ≡ [] }
     requires sizes { memory.old.pieces.sizes.items ≡ [] }
     requires rings { memory.old.pieces.rings.items ≡ [] }
+    requires rows { memory.old.rows.items ≡ [] }
     ensures { Answered (items_number job.entry.bytes.now (length sheet.old)) (job_of job.entry.bytes.now) (answer_in result) sheet.old sheet.new }
 {
-    let items = read_items(
+    let options = read_items(
         &mut job,
         &mut memory.obstacles,
         &mut memory.pieces,
-        &mut memory.rows[..],
+        &mut memory.rows,
     )?;
-    let rows = &memory.rows[..items.zones];
+    let rows = memory.rows.as_slice();
     let fits = sheet_room(rows) <= sheet.len();
     if !fits {
         return Err(Refusal::SheetLength);
@@ -68,11 +69,11 @@ fn plan_items(
         rows,
         rings: memory.pieces.rings.as_slice(),
         sizes: memory.pieces.sizes.as_slice(),
-        coords: memory.pieces.coords.as_slice(),
+        points: memory.pieces.points.as_slice(),
     };
     let job = ReadJob {
         bytes: job.bytes,
-        options: items.options,
+        options,
         obstacles: memory.obstacles.as_slice(),
         layout,
     };
@@ -94,7 +95,7 @@ fn plan_job(
     let mut memory = Memory {
         obstacles: ArrayVec::new(),
         pieces: JobPieces::new(),
-        rows: [Row::EMPTY; 64],
+        rows: ArrayVec::new(),
         scratch: Scratch {
             quotas: [0; 1024],
             deepest: [Deepest::Found(0.0, 0.0, 0.0); 1024],

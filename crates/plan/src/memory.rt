@@ -5,8 +5,9 @@ use discs::rows::Row;
 use format::pieces::JobPieces;
 use glyphs::rect::Rectangle;
 
-// The quotas and the deepest points of a job's pieces, the obstacles that are not dropped, and what the packers use. The
-// points are found by reading the quotas, so that an array of both would be read and written at once.
+// The quotas and the deepest points of a job's pieces, the obstacles that are not dropped, and what the packers use. Quotas and
+// points stay two arrays: the points are found with the quotas lent to read, so that the types say that these stay as they
+// are, for which each function of the search would need a clause with an array of both. The ceiling reads the points alone.
 #[derive(Drop)]
 pub struct Scratch {
     pub quotas: [usize; 1024],
@@ -21,6 +22,6 @@ pub struct Scratch {
 pub struct Memory {
     pub obstacles: ArrayVec<Rectangle, 64>,
     pub pieces: JobPieces,
-    pub rows: [Row; 64],
+    pub rows: ArrayVec<Row, 64>,
     pub scratch: Scratch,
 }

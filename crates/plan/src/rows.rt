@@ -7,9 +7,9 @@ ghost use Rattle.plan.specs.Bundled.{WasRead};
 
 use crate::answer::Planned;
 use crate::floor::plan_pieces;
-use crate::layout::ReadJob;
 use crate::memory::Scratch;
 use crate::pillars::sanitize_obstacles;
+use crate::read::ReadJob;
 use crate::searches::search_zones;
 use crate::shares::share_zones;
 use deepest::waiting::NoRoom;
@@ -49,21 +49,13 @@ pub fn plan_zones(
     sheet: &mut [u8],
 ) -> Result<Planned, Refusal>
     requires read { WasRead job }
-    requires zones { length job.layout.rows.now ≤ 64 }
     requires pieces { length job.layout.rings.now ≤ 1024 }
     requires obstacles { length job.obstacles.now ≤ 64 }
     requires room { 15 + rows_room job.layout.rows.now ≤ length sheet.old }
     ensures { Answered (zones_number (job_of job.entry.bytes.now)) (job_of job.entry.bytes.now) (answer_in result) sheet.old sheet.new }
 {
-    let layout = job.layout;
-    share_zones(layout, &mut scratch.quotas[..]);
-    if let Err(NoRoom) = search_zones(
-        job.options,
-        layout,
-        &scratch.quotas[..],
-        first,
-        &mut scratch.deepest[..],
-    ) {
+    share_zones(job, &mut scratch.quotas[..]);
+    if let Err(NoRoom) = search_zones(job, &scratch.quotas[..], first, &mut scratch.deepest[..]) {
         return Err(Refusal::SearchRoom);
     }
     scratch.pillars.clear();
@@ -75,10 +67,7 @@ pub fn plan_zones(
     };
     let zones = Zones {
         bytes: job.bytes,
-        rows: layout.rows,
-        rings: layout.rings,
-        sizes: layout.sizes,
-        coords: layout.coords,
+        layout: job.layout,
         quotas: &scratch.quotas[..],
         deepest: &scratch.deepest[..],
     };

@@ -2,13 +2,13 @@
 ghost use Rattle.std.specs.Prelude.{◌≡◌, ◌+◌, ◌≤◌, true, length, is_ok, IfOk};
 ghost use Rattle.regions.specs.Pieces.{rings_of};
 ghost use Rattle.discs.specs.Slices.{pieces_left};
+ghost use Rattle.discs.specs.Floor.{Within};
 ghost use Rattle.discs.specs.Searches.{starts_deepest, is_searched, searched, had_room};
-ghost use Rattle.plan.specs.Rows.{Readable};
 ghost use Rattle.plan.specs.Found.{found_in, Searched, PiecesSearched};
 ghost use Rattle.plan.specs.Bundled.{zone_found, all_fit, all_found};
 
-use crate::layout::Layout;
 use crate::parts::part;
+use crate::read::ReadJob;
 use deepest::search::{Deepest, deepest_point};
 use deepest::waiting::NoRoom;
 use discs::options::{GlyphOptions, Radius};
@@ -61,20 +61,18 @@ fn search_piece(
     }
 }
 
-// Puts the deepest points of pieces from `start` on. By an index: of what is written through a zip nothing is known after it.
+// Puts the deepest points of pieces, by index: of what is written through a zip nothing is known after it.
 fn search_pieces(
     options: GlyphOptions,
     pieces: Pieces<'_>,
     quotas: &[usize],
     cells: &mut [f64; 8000],
     deepest: &mut [Deepest],
-    start: usize,
 ) -> Result<(), NoRoom>
-    requires { start + length pieces.rings.now ≤ length deepest.old }
-    ensures { PiecesSearched start (found_in options true (pieces_left pieces.entry) quotas.now) (is_ok result) deepest.old deepest.new }
+    requires { length pieces.rings.now ≤ length deepest.old }
+    ensures { PiecesSearched 0 (found_in options true (pieces_left pieces.entry) quotas.now) (is_ok result) deepest.old deepest.new }
 {
-    let end = start + pieces.rings.len();
-    for (k, (piece, quota)) in (start..end).zip(pieces.zip(quotas)) {
+    for (k, (piece, quota)) in (0..pieces.rings.len()).zip(pieces.zip(quotas)) {
         deepest[k] = search_piece(options, piece, *quota, cells)?;
     }
     Ok(())
@@ -82,47 +80,49 @@ fn search_pieces(
 
 // Puts the deepest points of a zone's pieces: none where the zone is left out, which is the row's to say.
 fn search_zone(
-    options: GlyphOptions,
-    layout: Layout<'_>,
+    job: ReadJob<'_, '_>,
     quotas: &[usize],
     zone: ZoneAt,
     cells: &mut [f64; 8000],
     deepest: &mut [Deepest],
 ) -> Result<(), NoRoom>
-    requires zone { Readable layout.rings.now layout.sizes.now layout.coords.now zone.row zone.at }
-    requires quotas { length layout.rings.now ≤ length quotas.now }
-    requires room { length layout.rings.now ≤ length deepest.old }
-    ensures { PiecesSearched zone.at.piece (zone_found layout.entry options quotas.now zone.row zone.at) (is_ok result) deepest.old deepest.new }
+    requires zone { Within job.layout.rings.now job.layout.sizes.now job.layout.points.now zone.row zone.at }
+    requires quotas { length job.layout.rings.now ≤ length quotas.now }
+    requires room { length job.layout.rings.now ≤ length deepest.old }
+    ensures { PiecesSearched zone.at.piece (zone_found job.entry.layout job.entry.options quotas.now zone.row zone.at) (is_ok result) deepest.old deepest.new }
 {
     let ZoneAt { row, at } = zone;
+    let p = at.piece;
+    let q = p + row.pieces;
     if !is_left_in(row) {
-        deepest[at.piece..at.piece + row.pieces].fill(Deepest::Nothing);
+        deepest[p..q].fill(Deepest::Nothing);
         return Ok(());
     }
     search_pieces(
-        options,
-        layout.pieces(zone),
-        part(quotas, at.piece, row.pieces),
+        job.options,
+        job.layout.pieces(zone),
+        part(quotas, p, row.pieces),
         cells,
-        &mut deepest[..],
-        at.piece,
+        &mut deepest[p..q],
     )
 }
 
 // Puts the deepest points of all pieces of the zones.
 pub fn search_zones(
-    options: GlyphOptions,
-    layout: Layout<'_>,
+    job: ReadJob<'_, '_>,
     quotas: &[usize],
     cells: &mut [f64; 8000],
     deepest: &mut [Deepest],
 ) -> Result<(), NoRoom>
-    requires quotas { length layout.rings.now ≤ length quotas.now }
-    requires room { length layout.rings.now ≤ length deepest.old }
-    ensures { Searched 0 (all_fit layout.entry options quotas.now) (all_found layout.entry options quotas.now) (is_ok result) deepest.old deepest.new }
+    requires quotas { length job.layout.rings.now ≤ length quotas.now }
+    requires room { length job.layout.rings.now ≤ length deepest.old }
+    ensures { Searched 0
+        (all_fit job.entry.layout job.entry.options quotas.now)
+        (all_found job.entry.layout job.entry.options quotas.now)
+        (is_ok result) deepest.old deepest.new }
 {
-    for zone in layout.walk() {
-        search_zone(options, layout, quotas, zone, cells, &mut deepest[..])?;
+    for zone in job.layout.walk() {
+        search_zone(job, quotas, zone, cells, &mut deepest[..])?;
     }
     Ok(())
 }

@@ -7,7 +7,7 @@ ghost use Rattle.discs.specs.Slices.{pieces_left};
 ghost use Rattle.plan.specs.Rows.{Readable};
 ghost use Rattle.plan.specs.Bundled.{zone_shares, all_shares};
 
-use crate::layout::Layout;
+use crate::read::ReadJob;
 use discs::pieces::Pieces;
 use discs::rows::ZoneAt;
 use glyphs::quotas::apportion;
@@ -49,23 +49,23 @@ fn share_pieces(count: usize, pieces: Pieces<'_>, quotas: &mut [usize])
 }
 
 // Puts the quotas of a zone's pieces.
-fn share_zone(layout: Layout<'_>, zone: ZoneAt, quotas: &mut [usize])
-    requires zone { Readable layout.rings.now layout.sizes.now layout.coords.now zone.row zone.at }
-    requires room { length layout.rings.now ≤ length quotas.old }
-    ensures { quotas.new ≡ sets quotas.old zone.at.piece (zone_shares layout.entry zone.row zone.at) }
+fn share_zone(job: ReadJob<'_, '_>, zone: ZoneAt, quotas: &mut [usize])
+    requires zone { Readable job.layout.rings.now job.layout.sizes.now job.layout.points.now zone.row zone.at }
+    requires room { length job.layout.rings.now ≤ length quotas.old }
+    ensures { quotas.new ≡ sets quotas.old zone.at.piece (zone_shares job.entry.layout zone.row zone.at) }
 {
     let ZoneAt { row, at } = zone;
     let p = at.piece;
     let q = p + row.pieces;
-    share_pieces(row.count, layout.pieces(zone), &mut quotas[p..q]);
+    share_pieces(row.count, job.layout.pieces(zone), &mut quotas[p..q]);
 }
 
 // Puts the quotas of all pieces of the zones.
-pub fn share_zones(layout: Layout<'_>, quotas: &mut [usize])
-    requires { length layout.rings.now ≤ length quotas.old }
-    ensures { quotas.new ≡ sets quotas.old 0 (all_shares layout.entry) }
+pub fn share_zones(job: ReadJob<'_, '_>, quotas: &mut [usize])
+    requires { length job.layout.rings.now ≤ length quotas.old }
+    ensures { quotas.new ≡ sets quotas.old 0 (all_shares job.entry.layout) }
 {
-    for zone in layout.walk() {
-        share_zone(layout, zone, &mut quotas[..]);
+    for zone in job.layout.walk() {
+        share_zone(job, zone, &mut quotas[..]);
     }
 }

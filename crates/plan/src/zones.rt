@@ -4,18 +4,18 @@ ghost use mathlib.Core.List.{flatten};
 ghost use Rattle.laws.specs.Lists.{written};
 ghost use Rattle.glyphs.specs.Spots.{flat};
 ghost use Rattle.sheet.specs.Sheet.{placement_bytes};
+ghost use Rattle.sheet.specs.Steps.{Put};
 ghost use Rattle.discs.specs.Region.{placed_in};
 ghost use Rattle.discs.specs.PlaceGlyphs.{pack};
 ghost use Rattle.discs.specs.Floor.{cut, row_is_left_in};
 ghost use Rattle.discs.specs.Bundles.{IsPackable, SameWork};
 ghost use Rattle.job.specs.Job.{row_room, rows_room};
 ghost use Rattle.plan.specs.Bundled.{zone_spots, zone_placed, zone_bytes, ZoneFair, all_placed, all_bytes, AllFair};
-ghost use Rattle.plan.specs.Placing.{Put};
 ghost use Rattle.plan.specs.Bytes.{placement_of};
 
 use crate::parts::part;
 use crate::setting::Setting;
-use discs::bundle::{Work, Zones};
+use discs::bundle::{PackingAt, Work, Zones};
 use discs::options::GlyphOptions;
 use discs::region::pack_region;
 use discs::rows::{Row, ZoneAt, is_left_in};
@@ -23,14 +23,7 @@ use discs::trial::context_at;
 use discs::zone::region_at;
 use glyphs::mode::PackMode;
 use glyphs::options::ObstaclePolicy;
-use sheet::{put_spots, put_zone};
-
-// How far the sheet is written: where the next zone goes, and how many there are.
-#[derive(Clone, Copy)]
-pub struct Done {
-    pub at: usize,
-    pub zones: usize,
-}
+use sheet::Writer;
 
 // The mode of the final packing.
 fn pack_mode(options: GlyphOptions) -> PackMode
@@ -59,36 +52,24 @@ fn place_zone(setting: Setting<'_>, zones: Zones<'_>, zone: ZoneAt, work: &mut W
         return 0;
     };
     let packing = setting.packing;
-    let ctx = context_at(packing.options, pack_mode(packing.options), size.radius);
+    let how = PackingAt {
+        packing,
+        ctx: context_at(packing.options, pack_mode(packing.options), size.radius),
+    };
     let region = region_at(zones, zone);
-    pack_region(packing, ctx, region, &mut work.lent, &mut work.spots[..])
+    pack_region(how, region, &mut work.lent, &mut work.spots[..])
 }
 
-// Puts a zone with the spots that lie in front of `spots` at `at`, and answers where it ends. A spot is two floats, of a slice
-// that C lends.
-fn put_placement(
-    sheet: &mut [u8],
-    at: usize,
-    s: &[u8],
-    row: Row,
-    placed: usize,
-    spots: &[f64],
-) -> usize
-    requires room { at + 5 + row.len + 16 * placed ≤ length sheet.old }
+// Puts a zone with the spots that lie in front of `spots`. A spot is two floats, of a slice that C lends.
+fn put_placement(writer: &mut Writer<'_>, s: &[u8], row: Row, placed: usize, spots: &[f64])
+    requires room { writer.old.at + 5 + row.len + 16 * placed ≤ length writer.old.sheet.now }
     requires key { row.key + row.len ≤ length s.now }
     requires placed { placed ≤ row.count }
     requires spots { placed * 2 ≤ length spots.now }
-    ensures { Put (placement_bytes (placement_of s.now row placed spots.now)) at result sheet.old sheet.new }
+    ensures { Put (placement_bytes (placement_of s.now row placed spots.now)) 1 writer.old writer.new }
 {
-    let from = put_zone(
-        &mut sheet[..],
-        at,
-        part(s, row.key, row.len),
-        placed,
-        row.count - placed,
-    );
-    put_spots(&mut sheet[..], from, &spots[..placed * 2]);
-    from + 16 * placed
+    writer.put_zone(part(s, row.key, row.len), placed, row.count - placed);
+    writer.put_spots(&spots[..placed * 2]);
 }
 
 // Packs and puts a zone, where it is left in.
@@ -97,57 +78,41 @@ fn put_row(
     zones: Zones<'_>,
     zone: ZoneAt,
     work: &mut Work<'_>,
-    sheet: &mut [u8],
-    done: Done,
-) -> Done
+    writer: &mut Writer<'_>,
+)
     requires zone { IsPackable zones zone.row zone.at }
     requires near { length setting.packing.obstacles.now ≤ length work.old.lent.near.now }
     requires fair { ZoneFair setting zones zone.row zone.at }
-    requires room { done.at + row_room zone.row ≤ length sheet.old }
-    requires zones { done.zones ≤ 64 }
-    ensures put { Put (zone_bytes setting.entry zones.entry zone.row zone.at) done.at result.at sheet.old sheet.new }
-    ensures counted { result.zones ≡ done.zones + length (zone_placed setting.entry zones.entry zone.row zone.at) }
-    ensures room { result.at ≤ done.at + row_room zone.row }
-    ensures one { result.zones ≤ done.zones + 1 }
+    requires room { writer.old.at + row_room zone.row ≤ length writer.old.sheet.now }
+    ensures put { Put
+        (zone_bytes setting.entry zones.entry zone.row zone.at)
+        (length (zone_placed setting.entry zones.entry zone.row zone.at))
+        writer.old writer.new }
+    ensures room { writer.new.at ≤ writer.old.at + row_room zone.row }
     ensures same { SameWork work.old work.new }
 {
     if !is_left_in(zone.row) {
-        return done;
+        return;
     }
     let placed = place_zone(setting, zones, zone, work);
-    let to = put_placement(
-        &mut sheet[..],
-        done.at,
-        zones.bytes,
-        zone.row,
-        placed,
-        work.spots,
-    );
-    Done {
-        at: to,
-        zones: done.zones + 1,
-    }
+    put_placement(writer, zones.bytes, zone.row, placed, work.spots);
 }
 
-// Packs and puts the zones left in, from byte 15 of the sheet on.
+// Packs and puts the zones left in.
 pub fn put_zones(
     setting: Setting<'_>,
     zones: Zones<'_>,
     work: &mut Work<'_>,
-    sheet: &mut [u8],
-) -> Done
+    writer: &mut Writer<'_>,
+)
     requires near { length setting.packing.obstacles.now ≤ length work.old.lent.near.now }
     requires fair { AllFair setting zones }
-    requires room { 15 + rows_room zones.rows.now ≤ length sheet.old }
-    requires few { length zones.rows.now ≤ 64 }
-    ensures put { Put (all_bytes setting.entry zones.entry) 15 result.at sheet.old sheet.new }
-    ensures counted { result.zones ≡ length (all_placed setting.entry zones.entry) }
-    ensures room { result.at ≤ 15 + rows_room zones.entry.rows.now }
+    requires room { writer.old.at + rows_room zones.layout.rows.now ≤ length writer.old.sheet.now }
+    ensures put { Put (all_bytes setting.entry zones.entry) (length (all_placed setting.entry zones.entry)) writer.old writer.new }
+    ensures room { writer.new.at ≤ writer.old.at + rows_room zones.entry.layout.rows.now }
     ensures same { SameWork work.old work.new }
 {
-    let mut done = Done { at: 15, zones: 0 };
-    for zone in zones.walk() {
-        done = put_row(setting, zones, zone, work, &mut sheet[..], done);
+    for zone in zones.layout.walk() {
+        put_row(setting, zones, zone, work, writer);
     }
-    done
 }

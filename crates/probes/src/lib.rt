@@ -1,4 +1,5 @@
-//! The inner layers for tests/differential and bench alone, as probes.h declares them: no entry of the product.
+//! The inner layers for tests/differential and bench alone, as probes.h declares them: no entry of the product. What is
+//! lent and answered is as C has it: a piece comes in two slices, and one of several cases is answered by a number.
 #![tactic(auto)]
 
 ghost use Rattle.std.specs.Prelude.{◌≡◌, ◌*◌, ◌/◌, ◌<◌, ◌≤◌, length};
@@ -10,8 +11,7 @@ ghost use Rattle.regions.specs.Clearance.{signed_clearance};
 ghost use Rattle.relax.specs.Scatter.{source, relax_scatter};
 
 use deepest::search::{Deepest, deepest_point};
-use glyphs::rect::{Rectangle, is_near};
-use glyphs::spots::spot;
+use glyphs::rect::{Point, Rectangle, is_near};
 use regions::four::{Four, four_clearances};
 use regions::keeps::{clearance_at_least, clears};
 use regions::margin::Margin;
@@ -20,86 +20,74 @@ use regions::piece::RegionPiece;
 mod packers;
 
 #[unsafe(no_mangle)]
-pub extern "C" fn probe_signed_clearance(sizes: &[usize], coords: &[f64], x: f64, y: f64) -> f64
-    requires { (0 < length sizes.now) × (sum sizes.now * 2 ≤ length coords.now) }
-    ensures { result ≡ signed_clearance x y (piece_of sizes.now coords.now) }
+pub extern "C" fn probe_signed_clearance(sizes: &[usize], points: &[Point], x: f64, y: f64) -> f64
+    requires { (0 < length sizes.now) × (sum sizes.now ≤ length points.now) }
+    ensures { result ≡ signed_clearance x y (piece_of sizes.now points.now) }
 {
-    regions::clearance::signed_clearance(x, y, RegionPiece { sizes, coords })
+    regions::clearance::signed_clearance(x, y, RegionPiece { sizes, points })
 }
 
 #[unsafe(no_mangle)]
 pub extern "C" fn probe_four_clearances(
     sizes: &[usize],
-    coords: &[f64],
-    places: &[f64; 8],
+    points: &[Point],
+    places: &[Point; 4],
     found: &mut [f64; 4],
 )
-    requires { (0 < length sizes.now) × (sum sizes.now * 2 ≤ length coords.now) }
+    requires { (0 < length sizes.now) × (sum sizes.now ≤ length points.now) }
 {
-    let [ax, ay, bx, by, cx, cy, dx, dy] = *places;
-    let xs = Four {
-        a: ax,
-        b: bx,
-        c: cx,
-        d: dx,
-    };
-    let ys = Four {
-        a: ay,
-        b: by,
-        c: cy,
-        d: dy,
-    };
-    let four = four_clearances(xs, ys, RegionPiece { sizes, coords });
-    found[0] = four.a;
-    found[1] = four.b;
-    found[2] = four.c;
-    found[3] = four.d;
+    let [a, b, c, d] = *places;
+    let four = four_clearances(Four { a, b, c, d }, RegionPiece { sizes, points });
+    *found = [four.a, four.b, four.c, four.d];
 }
 
 #[unsafe(no_mangle)]
 pub extern "C" fn probe_clearance_at_least(
     sizes: &[usize],
-    coords: &[f64],
+    points: &[Point],
     x: f64,
     y: f64,
     c: f64,
 ) -> bool
-    requires { (0 < length sizes.now) × (sum sizes.now * 2 ≤ length coords.now) }
-    ensures { result ≡ (c ≤ᶠ signed_clearance x y (piece_of sizes.now coords.now)) }
+    requires { (0 < length sizes.now) × (sum sizes.now ≤ length points.now) }
+    ensures { result ≡ (c ≤ᶠ signed_clearance x y (piece_of sizes.now points.now)) }
 {
-    clearance_at_least(x, y, RegionPiece { sizes, coords }, c)
+    clearance_at_least(x, y, RegionPiece { sizes, points }, c)
 }
 
-// How many of the places, x and y in turn, have a clearance of at least c.
+// How many of the places have a clearance of at least c.
 #[unsafe(no_mangle)]
-pub extern "C" fn probe_count_clear(sizes: &[usize], coords: &[f64], places: &[f64], c: f64) -> u64
-    requires { (0 < length sizes.now) × (sum sizes.now * 2 ≤ length coords.now) }
+pub extern "C" fn probe_count_clear(
+    sizes: &[usize],
+    points: &[Point],
+    places: &[Point],
+    c: f64,
+) -> u64
+    requires { (0 < length sizes.now) × (sum sizes.now ≤ length points.now) }
 {
-    let piece = RegionPiece { sizes, coords };
+    let piece = RegionPiece { sizes, points };
     let margin = Margin::of(c);
-    (0..places.len() / 2)
-        .filter(|k| {
-            let p = spot(places, *k);
-            clears(p.x, p.y, piece, margin)
-        })
+    places
+        .iter()
+        .filter(|p| clears(p.x, p.y, piece, margin))
         .count() as u64
 }
 
 #[unsafe(no_mangle)]
-pub extern "C" fn probe_point_in_polygon(ring: &[f64], x: f64, y: f64) -> bool {
+pub extern "C" fn probe_point_in_polygon(ring: &[Point], x: f64, y: f64) -> bool {
     regions::inside::point_in_polygon(x, y, ring)
 }
 
 #[unsafe(no_mangle)]
-pub extern "C" fn probe_area(sizes: &[usize], coords: &[f64]) -> f64
-    requires { (0 < length sizes.now) × (sum sizes.now * 2 ≤ length coords.now) }
-    ensures { result ≡ piece_area (piece_of sizes.now coords.now) }
+pub extern "C" fn probe_area(sizes: &[usize], points: &[Point]) -> f64
+    requires { (0 < length sizes.now) × (sum sizes.now ≤ length points.now) }
+    ensures { result ≡ piece_area (piece_of sizes.now points.now) }
 {
-    regions::area::piece_area(RegionPiece { sizes, coords })
+    regions::area::piece_area(RegionPiece { sizes, points })
 }
 
 #[unsafe(no_mangle)]
-pub extern "C" fn probe_ring_bounds(ring: &[f64], bounds: &mut [f64; 4]) -> bool {
+pub extern "C" fn probe_ring_bounds(ring: &[Point], bounds: &mut [f64; 4]) -> bool {
     let Some(e) = glyphs::bounds::ring_bounds(ring) else {
         return false;
     };
@@ -111,14 +99,14 @@ pub extern "C" fn probe_ring_bounds(ring: &[f64], bounds: &mut [f64; 4]) -> bool
 #[unsafe(no_mangle)]
 pub extern "C" fn probe_obstacles_near(
     sizes: &[usize],
-    coords: &[f64],
+    points: &[Point],
     obstacles: &[Rectangle],
     clearance: f64,
     near: &mut [u8],
 ) -> u64
-    requires { (0 < length sizes.now) × (sum sizes.now * 2 ≤ length coords.now) × (length near.old ≤ length obstacles.now) }
+    requires { (0 < length sizes.now) × (sum sizes.now ≤ length points.now) × (length near.old ≤ length obstacles.now) }
 {
-    let piece = RegionPiece { sizes, coords };
+    let piece = RegionPiece { sizes, points };
     let Some(extents) = glyphs::bounds::ring_bounds(piece.outer()) else {
         near.fill(0);
         return 0;
@@ -136,17 +124,17 @@ pub extern "C" fn probe_obstacles_near(
 #[unsafe(no_mangle)]
 pub extern "C" fn probe_relax_scatter(
     sizes: &[usize],
-    coords: &[f64],
+    points: &[Point],
     obstacles: &[Rectangle],
     spacing: f64,
     inset: f64,
     spots: &mut [f64],
 )
     requires outer { 0 < length sizes.now }
-    requires within { sum sizes.now * 2 ≤ length coords.now }
+    requires within { sum sizes.now ≤ length points.now }
     requires whole { length spots.old ≡ length spots.old / 2 * 2 }
     requires few { length spots.old / 2 ≤ 2000 }
-    ensures { spots.new ≡ flat (relax_scatter source (spots_of spots.old) (piece_of sizes.now coords.now) obstacles.now spacing inset) }
+    ensures { spots.new ≡ flat (relax_scatter source (spots_of spots.old) (piece_of sizes.now points.now) obstacles.now spacing inset) }
 {
     let n = spots.len() / 2;
     let mut unrooted = [0.0; 2000];
@@ -156,7 +144,7 @@ pub extern "C" fn probe_relax_scatter(
         spots,
         &mut unrooted[..n],
         &mut honoring[..n],
-        RegionPiece { sizes, coords },
+        RegionPiece { sizes, points },
         obstacles,
         spacing,
         inset,
@@ -194,16 +182,16 @@ fn most_waiting(piece: RegionPiece, precision: f64, cells: &mut [f64]) -> usize
 #[unsafe(no_mangle)]
 pub extern "C" fn probe_deepest_point(
     sizes: &[usize],
-    coords: &[f64],
+    points: &[Point],
     precision: f64,
     first: &mut [f64],
     second: &mut [f64],
     found: &mut [f64; 3],
     waiting: &mut u32,
 ) -> u8
-    requires { (0 < length sizes.now) × (sum sizes.now * 2 ≤ length coords.now) × (8000 ≤ length first.old) }
+    requires { (0 < length sizes.now) × (sum sizes.now ≤ length points.now) × (8000 ≤ length first.old) }
 {
-    let piece = RegionPiece { sizes, coords };
+    let piece = RegionPiece { sizes, points };
     match deepest_point(piece, precision, &mut first[..8000]) {
         Deepest::Full => {
             *waiting = 1601;
@@ -215,9 +203,7 @@ pub extern "C" fn probe_deepest_point(
         }
         Deepest::Found(x, y, d) => {
             *waiting = most_waiting(piece, precision, first) as u32;
-            found[0] = x;
-            found[1] = y;
-            found[2] = d;
+            *found = [x, y, d];
             1
         }
     }
@@ -227,13 +213,13 @@ pub extern "C" fn probe_deepest_point(
 #[unsafe(no_mangle)]
 pub extern "C" fn probe_depth(
     sizes: &[usize],
-    coords: &[f64],
+    points: &[Point],
     precision: f64,
     cells: &mut [f64],
 ) -> f64
-    requires { (0 < length sizes.now) × (sum sizes.now * 2 ≤ length coords.now) × (length cells.old ≤ 500000) }
+    requires { (0 < length sizes.now) × (sum sizes.now ≤ length points.now) × (length cells.old ≤ 500000) }
 {
-    match deepest_point(RegionPiece { sizes, coords }, precision, cells) {
+    match deepest_point(RegionPiece { sizes, points }, precision, cells) {
         Deepest::Full => -1.0,
         Deepest::Nothing => 0.0,
         Deepest::Found(_, _, d) => d,

@@ -42,7 +42,7 @@ fn context(packing: &Packing, strict: bool) -> PackCtx
     }
 }
 
-// The lattice packer; a trial only counts.
+// The lattice packer; a trial only counts. `rectangular` is data, as in the packer itself.
 fn pack_lattice(
     rectangular: bool,
     piece: RegionPiece,
@@ -87,7 +87,7 @@ fn pack_lattice(
 #[unsafe(no_mangle)]
 pub extern "C" fn probe_pack_uniform(
     sizes: &[usize],
-    coords: &[f64],
+    points: &[Point],
     obstacles: &[Rectangle],
     packing: &Packing,
     state: &mut u64,
@@ -97,21 +97,21 @@ pub extern "C" fn probe_pack_uniform(
     spots: &mut [f64],
 ) -> usize
     requires outer { 0 < length sizes.now }
-    requires within { sum sizes.now * 2 ≤ length coords.now }
+    requires within { sum sizes.now ≤ length points.now }
     requires obstacles { length obstacles.now ≤ 64 }
     requires first { 8000 ≤ length first.old }
     requires some { 0 < packing.now.quota }
     requires second { packing.now.quota * 2 ≤ length second.old }
     requires spots { packing.now.quota * 2 ≤ length spots.old }
 {
-    let piece = RegionPiece { sizes, coords };
+    let piece = RegionPiece { sizes, points };
     pack_lattice(false, piece, obstacles, packing, first, second, spots)
 }
 
 #[unsafe(no_mangle)]
 pub extern "C" fn probe_pack_rectangular(
     sizes: &[usize],
-    coords: &[f64],
+    points: &[Point],
     obstacles: &[Rectangle],
     packing: &Packing,
     state: &mut u64,
@@ -121,14 +121,14 @@ pub extern "C" fn probe_pack_rectangular(
     spots: &mut [f64],
 ) -> usize
     requires outer { 0 < length sizes.now }
-    requires within { sum sizes.now * 2 ≤ length coords.now }
+    requires within { sum sizes.now ≤ length points.now }
     requires obstacles { length obstacles.now ≤ 64 }
     requires first { 8000 ≤ length first.old }
     requires some { 0 < packing.now.quota }
     requires second { packing.now.quota * 2 ≤ length second.old }
     requires spots { packing.now.quota * 2 ≤ length spots.old }
 {
-    let piece = RegionPiece { sizes, coords };
+    let piece = RegionPiece { sizes, points };
     pack_lattice(true, piece, obstacles, packing, first, second, spots)
 }
 
@@ -158,7 +158,7 @@ fn lone_place(
 #[unsafe(no_mangle)]
 pub extern "C" fn probe_pack_low_discrepancy(
     sizes: &[usize],
-    coords: &[f64],
+    points: &[Point],
     obstacles: &[Rectangle],
     packing: &Packing,
     state: &mut u64,
@@ -168,14 +168,14 @@ pub extern "C" fn probe_pack_low_discrepancy(
     spots: &mut [f64],
 ) -> usize
     requires outer { 0 < length sizes.now }
-    requires within { sum sizes.now * 2 ≤ length coords.now }
+    requires within { sum sizes.now ≤ length points.now }
     requires obstacles { length obstacles.now ≤ 64 }
     requires first { 8000 ≤ length first.old }
     requires spots { packing.now.quota * 2 ≤ length spots.old }
 {
     let ctx = context(packing, packing.strict);
     let mut near = [Rectangle::default(); 64];
-    let piece = RegionPiece { sizes, coords };
+    let piece = RegionPiece { sizes, points };
     let anchor = lone_place(piece, packing, obstacles, &mut near[..], first);
     pack_low_discrepancy_piece(
         anchor,
@@ -191,7 +191,7 @@ pub extern "C" fn probe_pack_low_discrepancy(
 #[unsafe(no_mangle)]
 pub extern "C" fn probe_pack_random(
     sizes: &[usize],
-    coords: &[f64],
+    points: &[Point],
     obstacles: &[Rectangle],
     packing: &Packing,
     state: &mut u64,
@@ -201,7 +201,7 @@ pub extern "C" fn probe_pack_random(
     spots: &mut [f64],
 ) -> usize
     requires outer { 0 < length sizes.now }
-    requires within { sum sizes.now * 2 ≤ length coords.now }
+    requires within { sum sizes.now ≤ length points.now }
     requires obstacles { length obstacles.now ≤ 64 }
     requires first { packing.now.quota ≤ length first.old }
     requires flags { packing.now.quota ≤ length flags.old }
@@ -212,7 +212,7 @@ pub extern "C" fn probe_pack_random(
     let mut near = [Rectangle::default(); 64];
     let taken = pack_random_piece(
         relax::Spreading::SOURCE,
-        RegionPiece { sizes, coords },
+        RegionPiece { sizes, points },
         packing.quota,
         packing.attempts,
         ctx,

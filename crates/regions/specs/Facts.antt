@@ -40,7 +40,9 @@ pub above_inside : (px py : Float) (piece : Piece) → T (0ᶠ <ᶠ signed_clear
 unfolding signed_clearance
 above_inside px py piece h = go (within px py piece) refl h
   where
-    go : (t : Bool) → within px py piece ≡ t → T (0ᶠ <ᶠ cond t (min_dist_to_rings px py piece) (neg (min_dist_to_rings px py piece))) → within px py piece ≡ true
+    go :
+        (t : Bool) → within px py piece ≡ t → T (0ᶠ <ᶠ cond t (min_dist_to_rings px py piece) (neg (min_dist_to_rings px py piece)))
+        → within px py piece ≡ true
     go true e k = e
     go false e k =
         absurd

@@ -128,7 +128,8 @@ module _ (px py b : Float) (ring : Ring) (g : Good b) where
       elim (eq-or-lt_of_le h) [
         | inl e ↦ same e
         | inr l ↦
-            le_trans (least_after px py b ring n (suc m)) (least_after px py b ring n m) (least_after px py b ring n i) (after_step n m) (after_falls n i m (le_of_suc-le-suc l))
+            le_trans (least_after px py b ring n (suc m)) (least_after px py b ring n m) (least_after px py b ring n i)
+            (after_step n m) (after_falls n i m (le_of_suc-le-suc l))
       ]
     where
       same : i ≡ suc m → T (le (least_after px py b ring n (suc m)) (least_after px py b ring n i))

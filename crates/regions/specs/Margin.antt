@@ -71,4 +71,5 @@ low_square_below c x h =
     refuted (c ≤ᶠ sqrt x)
     (λ (k : T (le c (sqrt x))).
     let p = root_number x (le_number c (sqrt x) k).1 in
-    lt_not_le (sqrt (low_square c)) c (low_square_lem c x p h) (le_trans c (sqrt x) (sqrt (low_square c)) k (root_of_mono binary64 x (low_square c) p (lt_le x (low_square c) h))))
+    let q = root_of_mono binary64 x (low_square c) p (lt_le x (low_square c) h) in
+    lt_not_le (sqrt (low_square c)) c (low_square_lem c x p h) (le_trans c (sqrt x) (sqrt (low_square c)) k q))

@@ -49,7 +49,9 @@ module _ (x y : Float) (v : Ring) (n : ℕ) where
   unfolding inside_after prev flip
   passed i e = rw (same_side x y (x_at v (suc i)) (y_at v (suc i)) (x_at v i) (y_at v i) (same_flag (y_at v (suc i) >ᶠ y) (y_at v i >ᶠ y) e))
 
-  one_more : (i m : ℕ) → bool_byte (y_at v (i + suc m) >ᶠ y) ≡ bool_byte (y_at v (i + m) >ᶠ y) → inside_after x y v n (i + suc (suc m)) ≡ inside_after x y v n (i + suc m)
+  one_more :
+      (i m : ℕ) → bool_byte (y_at v (i + suc m) >ᶠ y) ≡ bool_byte (y_at v (i + m) >ᶠ y)
+      → inside_after x y v n (i + suc (suc m)) ≡ inside_after x y v n (i + suc m)
   one_more i m e =
       let a : i + suc m ≡ suc (i + m) = omega arith in
       let b : i + suc (suc m) ≡ suc (suc (i + m)) = omega arith in
@@ -85,7 +87,10 @@ module _ (x y : Float) (v : Ring) (n : ℕ) where
       go true = refl
       go false = refl
 
-  pub next_turn : (k : ℕ) → 0 < k → inside_after x y v n (k + 1) ≡ flip (intersect x y (x_at v k) (y_at v k) (x_at v (k - 1)) (y_at v (k - 1))) (inside_after x y v n k)
+  pub next_turn :
+      (k : ℕ) → 0 < k
+      → inside_after x y v n (k + 1)
+      ≡ flip (intersect x y (x_at v k) (y_at v k) (x_at v (k - 1)) (y_at v (k - 1))) (inside_after x y v n k)
   unfolding inside_after prev
   next_turn zero h = absurd (omega arith)
   next_turn (suc k) h =

@@ -91,7 +91,8 @@ unfolding edge_square
 edge_sized px py ax ay bx by hx hy a₁ a₂ b₁ b₂ =
     let dx : Sized (bx -ᶠ ax) 2048 = sub_sized b₁ a₁ (lit< tt) in
     let dy : Sized (by -ᶠ ay) 2048 = sub_sized b₂ a₂ (lit< tt) in
-    let len2 : Sized ((bx -ᶠ ax) *ᶠ (bx -ᶠ ax) +ᶠ (by -ᶠ ay) *ᶠ (by -ᶠ ay)) 8388608 = add_sized (mul_sized dx dx (lit< tt)) (mul_sized dy dy (lit< tt)) (lit< tt) in
+    let len2 : Sized ((bx -ᶠ ax) *ᶠ (bx -ᶠ ax) +ᶠ (by -ᶠ ay) *ᶠ (by -ᶠ ay)) 8388608 =
+    add_sized (mul_sized dx dx (lit< tt)) (mul_sized dy dy (lit< tt)) (lit< tt) in
     let dot : Sized ((px -ᶠ ax) *ᶠ (bx -ᶠ ax) +ᶠ (py -ᶠ ay) *ᶠ (by -ᶠ ay)) 67108864 =
     add_sized (mul_sized (sub_sized hx a₁ (lit< tt)) dx (lit< tt)) (mul_sized (sub_sized hy a₂ (lit< tt)) dy (lit< tt)) (lit< tt) in
     let t = along_sized _ _ dot.num len2.num in
@@ -164,7 +165,8 @@ module _ (px py : Float) (ring : Ring) (holes : List Ring) (hx : Sized px 15360)
   dist_sized =
       let g = rings_good px py ∞ (ring ∷ holes) ∞-good in
       let s : Sized (least_of_rings px py (ring ∷ holes)) (26067 * 26067) = wider (lit≤ tt) least_sized in
-      rw least_root (sqrt_sized (least_of_rings px py (ring ∷ holes)) 26067 s (rw zero_val at (le→≼ 0ᶠ _ zero_num s.num (rw origin_is (at_least_zero _ g)))) (lit< tt))
+      let above = le→≼ 0ᶠ _ zero_num s.num (rw origin_is (at_least_zero _ g)) in
+      rw least_root (sqrt_sized (least_of_rings px py (ring ∷ holes)) 26067 s (rw zero_val at above) (lit< tt))
 
   -- a clearance is a number of size 26,067 at most
   pub clearance_sized : Sized (signed_clearance px py (ring ∷ holes)) 26067

@@ -57,14 +57,17 @@ module _ (x y : Float) (v : Ring) where
       ∙ ap (turns_from x y v n 0) (sym e)
 
   -- the turns of the vertices after the vertex 0 are those of the edges before them
-  shifted : (n k : ℕ) → k < n → flip (intersect x y (x_at v 0) (y_at v 0) (x_at v (n - 1)) (y_at v (n - 1))) (turns_from x y v n 0 k) ≡ inside_after x y v n (suc k)
+  shifted :
+      (n k : ℕ) → k < n
+      → flip (intersect x y (x_at v 0) (y_at v 0) (x_at v (n - 1)) (y_at v (n - 1))) (turns_from x y v n 0 k) ≡ inside_after x y v n (suc k)
   unfolding turns_from inside_after prev
   shifted n zero h = refl
   shifted n (suc k) h =
       let e : k + 1 ≡ suc k = omega arith in
+      let first = intersect x y (x_at v 0) (y_at v 0) (x_at v (n - 1)) (y_at v (n - 1)) in
+      let here = intersect x y (x_at v (suc k)) (y_at v (suc k)) (x_at v k) (y_at v k) in
       rw (zero-add k, next_is n k (omega arith), e)
-      (flip_swap (intersect x y (x_at v 0) (y_at v 0) (x_at v (n - 1)) (y_at v (n - 1))) (intersect x y (x_at v (suc k)) (y_at v (suc k)) (x_at v k) (y_at v k)) (turns_from x y v n 0 k)
-      ∙ ap (flip (intersect x y (x_at v (suc k)) (y_at v (suc k)) (x_at v k) (y_at v k))) (shifted n k (omega arith)))
+      (flip_swap first here (turns_from x y v n 0 k) ∙ ap (flip here) (shifted n k (omega arith)))
 
   all_turns : (n : ℕ) → 0 < n → turns_from x y v n 0 n ≡ inside_after x y v n n
   unfolding turns_from

@@ -98,5 +98,5 @@ high_not_below c u h =
 pub low_below : (c u : Float) → T (le 0ᶠ u) → T (lt u (low_square c)) → rooted u <ᶠ c ≡ true
 low_below c u p h =
     let q : T (le origin u) = rw origin_is at p in
-    rw (rooted_above u q)
-    (is_true (sqrt u <ᶠ c) (le_lt_trans (sqrt u) (sqrt (low_square c)) c (root_of_mono binary64 u (low_square c) q (lt_le u (low_square c) h)) (low_square_lem c u q h)))
+    let r = root_of_mono binary64 u (low_square c) q (lt_le u (low_square c) h) in
+    rw (rooted_above u q) (is_true (sqrt u <ᶠ c) (le_lt_trans (sqrt u) (sqrt (low_square c)) c r (low_square_lem c u q h)))

@@ -2,7 +2,8 @@
 -- Rests on nothing but the definitions.
 use Rattle.std.specs.Prelude.{ℕ, ◌+◌, ◌/◌, ◌<◌, ◌≡◌, Bool, Float}
 use Rattle.std.proofs.Common.{arith, lt-ltb}
-use Rattle.glyphs.specs.Points.{Ring, x_at, y_at}
+use Rattle.glyphs.specs.declared.rect.Point.{Point}
+use Rattle.glyphs.specs.Points.{Ring, vertex_at, x_at, y_at}
 use Rattle.regions.specs.Ring.{next}
 use Rattle.regions.specs.Inside.{intersect}
 use Rattle.regions.specs.Clearance.{edge_square, square_at}
@@ -22,9 +23,9 @@ in_first n i h = omega arith
 pub in_second : (n i : ℕ) → i < n / 2 → n / 2 + i < n
 in_second n i h = omega arith
 
-module _ (px py : Float) (ring : Ring) (n i : ℕ) (ax ay bx by : Float) (p : ax ≡ x_at ring i) (q : ay ≡ y_at ring i) (r : bx ≡ x_at ring (next n i)) (s : by ≡ y_at ring (next n i)) where
-  pub its_square : edge_square px py ax ay bx by ≡ square_at px py ring n i
-  its_square = rw (p, q, r, s)
+module _ (px py : Float) (ring : Ring) (n i : ℕ) (a b : Point) (p : a ≡ vertex_at ring i) (q : b ≡ vertex_at ring (next n i)) where
+  pub its_square : edge_square px py a.x a.y b.x b.y ≡ square_at px py ring n i
+  its_square = rw (p, q)
 
-  pub its_crossing : intersect px py bx by ax ay ≡ crosses_at px py ring n i
-  its_crossing = rw (p, q, r, s)
+  pub its_crossing : intersect px py b.x b.y a.x a.y ≡ crosses_at px py ring n i
+  its_crossing = rw (p, q)

@@ -5,26 +5,25 @@ ghost use Rattle.regions.specs.Area.{area_step, shoelace_area, piece_area};
 
 use crate::piece::RegionPiece;
 use crate::ring::after;
-use glyphs::points::{vx, vy};
+use glyphs::rect::Point;
 
 // `area` with the edge from a to b.
-fn area_step(area: f64, ax: f64, ay: f64, bx: f64, by: f64) -> f64
-    ensures { result ≡ area_step area ax ay bx by }
+fn area_step(area: f64, a: Point, b: Point) -> f64
+    ensures { result ≡ area_step area a.x a.y b.x b.y }
 {
-    area + ax * by - bx * ay
+    area + a.x * b.y - b.x * a.y
 }
 
-pub fn shoelace_area(v: &[f64]) -> f64
+pub fn shoelace_area(v: &[Point]) -> f64
     ensures { result ≡ shoelace_area v.now }
 {
-    let n = v.len() / 2;
+    let n = v.len();
     if n < 3 {
         return 0.0;
     }
     let mut area = 0.0;
     for i in 0..n {
-        let j = after(n, i);
-        area = area_step(area, vx(v, i), vy(v, i), vx(v, j), vy(v, j));
+        area = area_step(area, v[i], v[after(n, i)]);
     }
     float::abs(area / 2.0)
 }

@@ -9,7 +9,7 @@ use crate::inside::point_in_polygon;
 use crate::piece::{RegionPiece, Rings};
 use crate::ring::after;
 use crate::small::ring_clearance;
-use glyphs::points::{vx, vy};
+use glyphs::rect::Point;
 
 // Where the point nearest to a place lies on an edge: `dot` of the squared length `len2`, held to the edge. There is no
 // branch, so that several edges or places can be worked out side by side.
@@ -23,14 +23,14 @@ fn along_edge(dot: f64, len2: f64) -> f64
 }
 
 // The square of the distance from (px, py) to the edge from a to b.
-pub fn edge_square(px: f64, py: f64, ax: f64, ay: f64, bx: f64, by: f64) -> f64
-    ensures { result ≡ edge_square px py ax ay bx by }
+pub fn edge_square(px: f64, py: f64, a: Point, b: Point) -> f64
+    ensures { result ≡ edge_square px py a.x a.y b.x b.y }
 {
-    let dx = bx - ax;
-    let dy = by - ay;
-    let t = along_edge((px - ax) * dx + (py - ay) * dy, dx * dx + dy * dy);
-    let ex = px - (ax + t * dx);
-    let ey = py - (ay + t * dy);
+    let dx = b.x - a.x;
+    let dy = b.y - a.y;
+    let t = along_edge((px - a.x) * dx + (py - a.y) * dy, dx * dx + dy * dy);
+    let ex = px - (a.x + t * dx);
+    let ey = py - (a.y + t * dy);
     ex * ex + ey * ey
 }
 
@@ -45,37 +45,28 @@ pub fn lesser(d: f64, best: f64) -> f64
 }
 
 // The lesser of `best` and the square of the distance to the edge from a to b.
-pub fn closer_edge(px: f64, py: f64, best: f64, ax: f64, ay: f64, bx: f64, by: f64) -> f64
-    ensures { result ≡ closer (edge_square px py ax ay bx by) best }
+pub fn closer_edge(px: f64, py: f64, best: f64, a: Point, b: Point) -> f64
+    ensures { result ≡ closer (edge_square px py a.x a.y b.x b.y) best }
 {
-    lesser(edge_square(px, py, ax, ay, bx, by), best)
+    lesser(edge_square(px, py, a, b), best)
 }
 
 // The lesser of `best` and the square of the distance to edge `i`.
-fn closer_at(px: f64, py: f64, best: f64, ring: &[f64], i: usize) -> f64
-    requires { i < length ring.now / 2 }
-    ensures { result ≡ closer (square_at px py ring.now (length ring.now / 2) i) best }
+fn closer_at(px: f64, py: f64, best: f64, ring: &[Point], i: usize) -> f64
+    requires { i < length ring.now }
+    ensures { result ≡ closer (square_at px py ring.now (length ring.now) i) best }
 {
-    let k = after(ring.len() / 2, i);
-    closer_edge(
-        px,
-        py,
-        best,
-        vx(ring, i),
-        vy(ring, i),
-        vx(ring, k),
-        vy(ring, k),
-    )
+    closer_edge(px, py, best, ring[i], ring[after(ring.len(), i)])
 }
 
 // The least of the second half of a ring's edges, of which `best` is that of as many as the first half has: an odd
 // number of edges leaves the last one.
-pub fn with_last(px: f64, py: f64, best: f64, ring: &[f64], half: usize) -> f64
-    requires { (half ≡ length ring.now / 2 / 2) × (best ≡ least_from px py ring.now (length ring.now / 2) half half) }
-    ensures { result ≡ least_from px py ring.now (length ring.now / 2) half (length ring.now / 2 - half) }
+pub fn with_last(px: f64, py: f64, best: f64, ring: &[Point], half: usize) -> f64
+    requires { (half ≡ length ring.now / 2) × (best ≡ least_from px py ring.now (length ring.now) half half) }
+    ensures { result ≡ least_from px py ring.now (length ring.now) half (length ring.now - half) }
 {
     let i = half + half;
-    if i < ring.len() / 2 {
+    if i < ring.len() {
         return closer_at(px, py, best, ring, i);
     }
     best
@@ -83,32 +74,25 @@ pub fn with_last(px: f64, py: f64, best: f64, ring: &[f64], half: usize) -> f64
 
 // The least of `start` and the squares of the distances to a ring's edges. The two halves are walked side by side, the
 // one at a, the other at b.
-pub fn ring_square(px: f64, py: f64, start: f64, ring: &[f64]) -> f64
+pub fn ring_square(px: f64, py: f64, start: f64, ring: &[Point]) -> f64
     ensures { result ≡ least_of_ring px py start ring.now }
 {
-    let n = ring.len() / 2;
+    let n = ring.len();
     if n < 2 {
         return start;
     }
     let half = n / 2;
     let mut best = start;
     let mut other = 1.0 / 0.0;
-    let mut ax = vx(ring, 0);
-    let mut ay = vy(ring, 0);
-    let mut bx = vx(ring, half);
-    let mut by = vy(ring, half);
+    let mut a = ring[0];
+    let mut b = ring[half];
     for i in 0..half {
-        let k = after(n, half + i);
-        let cx = vx(ring, i + 1);
-        let cy = vy(ring, i + 1);
-        let dx = vx(ring, k);
-        let dy = vy(ring, k);
-        best = closer_edge(px, py, best, ax, ay, cx, cy);
-        other = closer_edge(px, py, other, bx, by, dx, dy);
-        ax = cx;
-        ay = cy;
-        bx = dx;
-        by = dy;
+        let c = ring[i + 1];
+        let d = ring[after(n, half + i)];
+        best = closer_edge(px, py, best, a, c);
+        other = closer_edge(px, py, other, b, d);
+        a = c;
+        b = d;
     }
     lesser(with_last(px, py, other, ring, half), best)
 }

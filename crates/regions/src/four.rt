@@ -12,7 +12,7 @@ use crate::clearance::closer_edge;
 use crate::inside::turned_by;
 use crate::piece::{RegionPiece, Rings};
 use crate::ring::{after, before};
-use glyphs::points::{vx, vy};
+use glyphs::rect::Point;
 
 // What each of four places has, by name: no index is to be within an array.
 #[derive(Clone, Copy)]
@@ -24,52 +24,35 @@ pub struct Four<T> {
 }
 
 // The least squares so far, with those of the edge from a to b.
-fn nearer(
-    xs: Four<f64>,
-    ys: Four<f64>,
-    best: Four<f64>,
-    ax: f64,
-    ay: f64,
-    bx: f64,
-    by: f64,
-) -> Four<f64>
-    ensures { (k : Which) → at k result ≡ closer (edge_square (at k xs) (at k ys) ax ay bx by) (at k best) }
+fn nearer(places: Four<Point>, best: Four<f64>, a: Point, b: Point) -> Four<f64>
+    ensures { (k : Which) → at k result ≡ closer (edge_square (at k places).x (at k places).y a.x a.y b.x b.y) (at k best) }
 {
     Four {
-        a: closer_edge(xs.a, ys.a, best.a, ax, ay, bx, by),
-        b: closer_edge(xs.b, ys.b, best.b, ax, ay, bx, by),
-        c: closer_edge(xs.c, ys.c, best.c, ax, ay, bx, by),
-        d: closer_edge(xs.d, ys.d, best.d, ax, ay, bx, by),
+        a: closer_edge(places.a.x, places.a.y, best.a, a, b),
+        b: closer_edge(places.b.x, places.b.y, best.b, a, b),
+        c: closer_edge(places.c.x, places.c.y, best.c, a, b),
+        d: closer_edge(places.d.x, places.d.y, best.d, a, b),
     }
 }
 
 // The least of `start` and the squares of the distances to a ring's edges.
-fn ring_squares(xs: Four<f64>, ys: Four<f64>, start: Four<f64>, ring: &[f64]) -> Four<f64>
-    ensures { (k : Which) → at k result ≡ least_of_ring (at k xs) (at k ys) (at k start) ring.now }
+fn ring_squares(places: Four<Point>, start: Four<f64>, ring: &[Point]) -> Four<f64>
+    ensures { (k : Which) → at k result ≡ least_of_ring (at k places).x (at k places).y (at k start) ring.now }
 {
-    let n = ring.len() / 2;
+    let n = ring.len();
     if n < 2 {
         return start;
     }
     let mut best = start;
     for i in 0..n {
-        let j = after(n, i);
-        best = nearer(
-            xs,
-            ys,
-            best,
-            vx(ring, i),
-            vy(ring, i),
-            vx(ring, j),
-            vy(ring, j),
-        );
+        best = nearer(places, best, ring[i], ring[after(n, i)]);
     }
     best
 }
 
 // The least squares of all rings.
-fn rings_squares(xs: Four<f64>, ys: Four<f64>, rings: Rings) -> Four<f64>
-    ensures { (k : Which) → at k result ≡ least_of_rings (at k xs) (at k ys) (rings_left rings.entry) }
+fn rings_squares(places: Four<Point>, rings: Rings) -> Four<f64>
+    ensures { (k : Which) → at k result ≡ least_of_rings (at k places).x (at k places).y (rings_left rings.entry) }
 {
     let far = 1.0 / 0.0;
     let mut best = Four {
@@ -79,49 +62,41 @@ fn rings_squares(xs: Four<f64>, ys: Four<f64>, rings: Rings) -> Four<f64>
         d: far,
     };
     for ring in rings {
-        best = ring_squares(xs, ys, best, ring);
+        best = ring_squares(places, best, ring);
     }
     best
 }
 
-// Whether each ordinate has both ends of an edge above it, or neither, so that the edge is crossed for none.
-fn on_one_side_of_all(ys: Four<f64>, yi: f64, yj: f64) -> bool
-    ensures { result ≡ true → (k : Which) → yi >ᶠ at k ys ≡ yj >ᶠ at k ys }
+// Whether each place has both ends of an edge above it, or neither, so that the edge is crossed for none.
+fn on_one_side_of_all(places: Four<Point>, vi: Point, vj: Point) -> bool
+    ensures { result ≡ true → (k : Which) → vi.y >ᶠ (at k places).y ≡ vj.y >ᶠ (at k places).y }
 {
-    let a = (yi > ys.a) == (yj > ys.a);
-    let b = (yi > ys.b) == (yj > ys.b);
-    let c = (yi > ys.c) == (yj > ys.c);
-    let d = (yi > ys.d) == (yj > ys.d);
+    let a = (vi.y > places.a.y) == (vj.y > places.a.y);
+    let b = (vi.y > places.b.y) == (vj.y > places.b.y);
+    let c = (vi.y > places.c.y) == (vj.y > places.c.y);
+    let d = (vi.y > places.d.y) == (vj.y > places.d.y);
     a & b & c & d
 }
 
-// The flags turned over where the edge between the vertices i and j is crossed.
-fn turned_all(
-    xs: Four<f64>,
-    ys: Four<f64>,
-    inside: Four<bool>,
-    xi: f64,
-    yi: f64,
-    xj: f64,
-    yj: f64,
-) -> Four<bool>
-    ensures { (k : Which) → at k result ≡ flip (intersect (at k xs) (at k ys) xi yi xj yj) (at k inside) }
+// The flags turned over where the edge between two vertices is crossed.
+fn turned_all(places: Four<Point>, inside: Four<bool>, vi: Point, vj: Point) -> Four<bool>
+    ensures { (k : Which) → at k result ≡ flip (intersect (at k places).x (at k places).y vi.x vi.y vj.x vj.y) (at k inside) }
 {
-    if on_one_side_of_all(ys, yi, yj) {
+    if on_one_side_of_all(places, vi, vj) {
         return inside;
     }
     Four {
-        a: turned_by(xs.a, ys.a, inside.a, xi, yi, xj, yj),
-        b: turned_by(xs.b, ys.b, inside.b, xi, yi, xj, yj),
-        c: turned_by(xs.c, ys.c, inside.c, xi, yi, xj, yj),
-        d: turned_by(xs.d, ys.d, inside.d, xi, yi, xj, yj),
+        a: turned_by(places.a.x, places.a.y, inside.a, vi, vj),
+        b: turned_by(places.b.x, places.b.y, inside.b, vi, vj),
+        c: turned_by(places.c.x, places.c.y, inside.c, vi, vj),
+        d: turned_by(places.d.x, places.d.y, inside.d, vi, vj),
     }
 }
 
-fn in_polygon(xs: Four<f64>, ys: Four<f64>, ring: &[f64]) -> Four<bool>
-    ensures { (k : Which) → at k result ≡ point_in_polygon (at k xs) (at k ys) ring.now }
+fn in_polygon(places: Four<Point>, ring: &[Point]) -> Four<bool>
+    ensures { (k : Which) → at k result ≡ point_in_polygon (at k places).x (at k places).y ring.now }
 {
-    let n = ring.len() / 2;
+    let n = ring.len();
     let mut inside = Four {
         a: false,
         b: false,
@@ -132,16 +107,7 @@ fn in_polygon(xs: Four<f64>, ys: Four<f64>, ring: &[f64]) -> Four<bool>
         return inside;
     }
     for i in 0..n {
-        let j = before(n, i);
-        inside = turned_all(
-            xs,
-            ys,
-            inside,
-            vx(ring, i),
-            vy(ring, i),
-            vx(ring, j),
-            vy(ring, j),
-        );
+        inside = turned_all(places, inside, ring[i], ring[before(n, i)]);
     }
     inside
 }
@@ -159,21 +125,21 @@ fn kept(inside: Four<bool>, hole: Four<bool>) -> Four<bool>
 }
 
 // Whether each place is inside the outer ring and no hole.
-fn in_piece(xs: Four<f64>, ys: Four<f64>, piece: RegionPiece) -> Four<bool>
-    ensures { (k : Which) → at k result ≡ within (at k xs) (at k ys) (rings_of piece.entry) }
+fn in_piece(places: Four<Point>, piece: RegionPiece) -> Four<bool>
+    ensures { (k : Which) → at k result ≡ within (at k places).x (at k places).y (rings_of piece.entry) }
 {
-    let mut inside = in_polygon(xs, ys, piece.outer());
+    let mut inside = in_polygon(places, piece.outer());
     for hole in piece.holes() {
-        inside = kept(inside, in_polygon(xs, ys, hole));
+        inside = kept(inside, in_polygon(places, hole));
     }
     inside
 }
 
-pub fn four_clearances(xs: Four<f64>, ys: Four<f64>, piece: RegionPiece) -> Four<f64>
-    ensures { (k : Which) → at k result ≡ signed_clearance (at k xs) (at k ys) (rings_of piece.entry) }
+pub fn four_clearances(places: Four<Point>, piece: RegionPiece) -> Four<f64>
+    ensures { (k : Which) → at k result ≡ signed_clearance (at k places).x (at k places).y (rings_of piece.entry) }
 {
-    let squares = rings_squares(xs, ys, piece.rings());
-    let inside = in_piece(xs, ys, piece);
+    let squares = rings_squares(places, piece.rings());
+    let inside = in_piece(places, piece);
     let [a, b, c, d] = float::each_root([squares.a, squares.b, squares.c, squares.d]);
     Four {
         a: float::negate_unless(a, inside.a),

@@ -1,5 +1,5 @@
 //! polygon.rs and regions.rs: area, inside test and clearance of a piece. A piece is the sizes of
-//! its rings in vertices, the outer ring first, and their coordinates, x and y in turn, ring after ring.
+//! its rings in vertices, the outer ring first, and their vertices, ring after ring.
 #![tactic(auto)]
 
 pub mod area;

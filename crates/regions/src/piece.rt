@@ -1,22 +1,24 @@
 // regions.rs, `RegionPiece`: an outer ring and its holes.
-ghost use Rattle.std.specs.Prelude.{◌*◌, ◌<◌, ◌≤◌, length};
+ghost use Rattle.std.specs.Prelude.{◌<◌, ◌≤◌, length};
 ghost use Rattle.regions.specs.Ring.{sum};
 
-// The sizes of the rings in vertices, the outer ring first, and their coordinates, x and y in turn, ring after ring.
+use glyphs::rect::Point;
+
+// The sizes of the rings in vertices, the outer ring first, and their vertices, ring after ring.
 #[derive(Clone, Copy)]
 pub struct RegionPiece<'a> {
     pub sizes: &'a [usize],
-    pub coords: &'a [f64],
+    pub points: &'a [Point],
     pub ghost outer_ring: { 0 < length sizes.now },
-    pub ghost room: { sum sizes.now * 2 ≤ length coords.now },
+    pub ghost room: { sum sizes.now ≤ length points.now },
 }
 
 // The rings of a piece that are still to come.
 #[derive(Clone, Copy)]
 pub struct Rings<'a> {
     pub sizes: &'a [usize],
-    pub coords: &'a [f64],
-    pub ghost room: { sum sizes.now * 2 ≤ length coords.now },
+    pub points: &'a [Point],
+    pub ghost room: { sum sizes.now ≤ length points.now },
 }
 
 impl<'a> RegionPiece<'a> {
@@ -30,15 +32,15 @@ impl<'a> RegionPiece<'a> {
     {
         Rings {
             sizes: self.sizes,
-            coords: self.coords,
+            points: self.points,
         }
     }
 
-    pub fn outer(self) -> &'a [f64]
+    pub fn outer(self) -> &'a [Point]
         ensures ring { result.now ≡ outer (rings_of self.entry) }
-        ensures vertices { length result.now ≡ slice_index self.entry.sizes.now 0 * 2 }
+        ensures vertices { length result.now ≡ slice_index self.entry.sizes.now 0 }
     {
-        &self.coords[..self.sizes[0] * 2]
+        &self.points[..self.sizes[0]]
     }
 
     pub fn holes(self) -> Rings<'a>
@@ -51,7 +53,7 @@ impl<'a> RegionPiece<'a> {
 }
 
 impl<'a> Iterator for Rings<'a> {
-    type Item = &'a [f64];
+    type Item = &'a [Point];
 
     ghost use Rattle.std.specs.Iterator.{YieldsFirstRef, item_count};
     ghost use Rattle.regions.specs.Pieces.{rings_left};
@@ -60,11 +62,11 @@ impl<'a> Iterator for Rings<'a> {
 
     ghost remaining = { item_count rings_left };
 
-    fn next(&mut self) -> Option<&'a [f64]> {
+    fn next(&mut self) -> Option<&'a [Point]> {
         let (size, sizes) = self.sizes.split_first()?;
-        let (ring, coords) = self.coords.split_at(*size * 2);
+        let (ring, points) = self.points.split_at(*size);
         self.sizes = sizes;
-        self.coords = coords;
+        self.points = points;
         Some(ring)
     }
 }

@@ -80,9 +80,9 @@ force_on field piece i points clearance =
     cond (clearance <ᶠ field.boundary_reach && field.boundary_reach >ᶠ 0ᶠ) (push_inward field clearance (clearance_gradient field piece p) f) f
 
 -- points.iter().enumerate().all(|(j, q)| j == i || ..), from the index j on
-unfoldable pub clear_of_others : Float → Float → Float → ℕ → ℕ → List Point → Bool
-clear_of_others x y spacing2 i j [] = true
-clear_of_others x y spacing2 i j (q ∷ qs) = (eqb j i || apart x y spacing2 q) && clear_of_others x y spacing2 i (j + 1) qs
+unfoldable pub clear_of_others : Point → Float → ℕ → ℕ → List Point → Bool
+clear_of_others p spacing2 i j [] = true
+clear_of_others p spacing2 i j (q ∷ qs) = (eqb j i || apart p spacing2 q) && clear_of_others p spacing2 i (j + 1) qs
 
 unfoldable pub accepts : Distances → Piece → List Rectangle → Point → ℕ → List Point → Bool → Option Float
 accepts field piece obstacles candidate i points honoring =
@@ -91,4 +91,4 @@ accepts field piece obstacles candidate i points honoring =
     let clearance = signed_clearance x y piece in
     cond (clearance <ᶠ field.inset) None
     (cond (honoring && not (clear_of_obstacles x y obstacles field.inset)) None
-    (cond (clear_of_others x y (field.spacing *ᶠ field.spacing) i 0 points) (Some clearance) None))
+    (cond (clear_of_others candidate (field.spacing *ᶠ field.spacing) i 0 points) (Some clearance) None))

@@ -59,7 +59,7 @@ module _ (e : Surroundings) (P : Scatter → Type 0)
       let field = e.field in
       keeps_answer s i p (signed_clearance p.x p.y e.piece <ᶠ field.inset)
       (honoring && not (clear_of_obstacles p.x p.y e.obstacles field.inset))
-      (clear_of_others p.x p.y (field.spacing *ᶠ field.spacing) i 0 s.points)
+      (clear_of_others p (field.spacing *ᶠ field.spacing) i 0 s.points)
       o
       h
       k

@@ -1,6 +1,7 @@
 -- A mark's part of a sweep, parted: first where it moves to, which changes nothing, and then the move. The law says that this is `relax_point`.
 -- Rests on the definitions.
-use Rattle.std.specs.Prelude.{◌≡◌, Bool, true, false, not, cond, ◌||◌, Option, Some, None, List, map, ℕ, zero, suc, ◌/◌, ◌<◌, length, get_or, Float}
+use Rattle.std.specs.Prelude.{◌≡◌, Bool, true, false, not, cond, ◌||◌, Option, Some, None}
+use Rattle.std.specs.Prelude.{List, map, ℕ, zero, suc, ◌/◌, ◌<◌, length, get_or, Float}
 use Rattle.std.proofs.Math.Path.{refl}
 use Rattle.std.proofs.Common.{sym, ap, ◌∙◌}
 use Rattle.std.specs.Float.{nan}

@@ -9,7 +9,7 @@ use Rattle.std.proofs.Math.Bool.{true, false, and_assoc, or-true}
 use mathlib.Core.List.{List, [], ◌∷◌, foldl}
 use Prim.Native.Nat.{ℕ, zero, suc, ◌+◌, ◌*◌, ◌<◌}
 use native.Mathlib.Omega.{arith}
-use Rattle.std.proofs.Math.Nat.{zero-add}
+use Rattle.std.proofs.Math.Nat.{zero-add, zero-mul}
 use Rattle.std.proofs.Math.Dec.{eqb}
 use Rattle.std.proofs.lemmas.List.{take-set-le}
 use mir.Val.{bool_byte}
@@ -22,7 +22,7 @@ use Rattle.float.specs.Order.{sqrt}
 use Rattle.glyphs.specs.declared.rect.Point.{Point}
 use Rattle.glyphs.specs.declared.rect.Rectangle.{Rectangle}
 use Rattle.glyphs.specs.Rect.{clear_of_obstacles}
-use Rattle.glyphs.specs.Spots.{apart, near_count, spots_of, spots_take, spots_drop}
+use Rattle.glyphs.specs.Spots.{squared_distance, apart, near_count, spot_at, spots_of, spots_take, spots_drop}
 use Rattle.regions.specs.Ring.{Piece}
 use Rattle.regions.specs.Clearance.{signed_clearance}
 use Rattle.regions.specs.Margins.{margin_of, least_of_margin}
@@ -34,25 +34,25 @@ use Rattle.relax.specs.Field.{push_of, pushes, clear_of_others, accepts}
 
 -- ---- the spacing test
 
-module _ (x y least : Float) where
-  clear_past : (i j : ℕ) (qs : List Point) → i < j → clear_of_others x y least i j qs ≡ all (apart x y least) qs
+module _ (p : Point) (least : Float) where
+  clear_past : (i j : ℕ) (qs : List Point) → i < j → clear_of_others p least i j qs ≡ all (apart p least) qs
   unfolding clear_of_others all
   clear_past i j [] h = refl
   clear_past i j (q ∷ qs) h = rw (ne_eqb j i (λ e. omega arith), clear_past i (j + 1) qs (omega arith))
 
   clear_from :
       (m i j : ℕ) (qs : List Point) → i ≡ j + m → m < length qs
-      → clear_of_others x y least i j qs ≡ all (apart x y least) (take m qs) && all (apart x y least) (drop (suc m) qs)
+      → clear_of_others p least i j qs ≡ all (apart p least) (take m qs) && all (apart p least) (drop (suc m) qs)
   unfolding clear_of_others all
   clear_from m i j [] e h = absurd (omega arith)
   clear_from zero i j (q ∷ qs) e h = rw (eq-eqb j i (omega arith), clear_past i (j + 1) qs (omega arith))
   clear_from (suc m) i j (q ∷ qs) e h =
-      rw (ne_eqb j i (λ d. omega arith), clear_from m i (j + 1) qs (omega arith) (omega arith)) (sym (and_assoc (apart x y least q) _ _))
+      rw (ne_eqb j i (λ d. omega arith), clear_from m i (j + 1) qs (omega arith) (omega arith)) (sym (and_assoc (apart p least q) _ _))
 
 pub clear_others :
-    (x y least : Float) (i : ℕ) (points : List Point) → i < length points
-    → clear_of_others x y least i 0 points ≡ all (apart x y least) (take i points) && all (apart x y least) (drop (i + 1) points)
-clear_others x y least i points h = clear_from x y least i i 0 points (omega arith) h ∙ rw add-one
+    (p : Point) (least : Float) (i : ℕ) (points : List Point) → i < length points
+    → clear_of_others p least i 0 points ≡ all (apart p least) (take i points) && all (apart p least) (drop (i + 1) points)
+clear_others p least i points h = clear_from p least i i 0 points (omega arith) h ∙ rw add-one
 
 -- a sum is one of its parts where the others are 0
 own_alone : (before own after : ℕ) → eqb before 0 && eqb after 0 ≡ eqb (before + (own + after)) own
@@ -60,23 +60,23 @@ own_alone zero own zero = sym (eq-eqb (0 + (own + 0)) own (omega arith))
 own_alone zero own (suc after) = rw (ne_eqb (suc after) 0 (λ e. omega arith), ne_eqb (0 + (own + suc after)) own (λ e. omega arith))
 own_alone (suc before) own after = rw (ne_eqb (suc before) 0 (λ e. omega arith), ne_eqb (suc before + (own + after)) own (λ e. omega arith))
 
-module _ (x y least : Float) where
-  none_near : (qs : List Point) → all (apart x y least) qs ≡ eqb (near_count x y least qs) 0
+module _ (p : Point) (least : Float) where
+  none_near : (qs : List Point) → all (apart p least) qs ≡ eqb (near_count p least qs) 0
   unfolding all near_count
   none_near [] = refl
-  none_near (q ∷ qs) = go (apart x y least q) (none_near qs)
+  none_near (q ∷ qs) = go (apart p least q) (none_near qs)
     where
       go :
-          (b : Bool) → all (apart x y least) qs ≡ eqb (near_count x y least qs) 0
-          → b && all (apart x y least) qs ≡ eqb (bool_byte (not b) + near_count x y least qs) 0
+          (b : Bool) → all (apart p least) qs ≡ eqb (near_count p least qs) 0
+          → b && all (apart p least) qs ≡ eqb (bool_byte (not b) + near_count p least qs) 0
       go true e = rw zero-add e
-      go false e = sym (ne_eqb (1 + near_count x y least qs) 0 (λ z. omega arith))
+      go false e = sym (ne_eqb (1 + near_count p least qs) 0 (λ z. omega arith))
 
   -- the marks before mark i, it, and those after it
   near_parts :
       (i : ℕ) (qs : List Point) (d : Point) → i < length qs
-      → near_count x y least qs
-      ≡ near_count x y least (take i qs) + (bool_byte (not (apart x y least (get_or qs i d))) + near_count x y least (drop (suc i) qs))
+      → near_count p least qs
+      ≡ near_count p least (take i qs) + (bool_byte (not (apart p least (get_or qs i d))) + near_count p least (drop (suc i) qs))
   unfolding near_count
   near_parts i [] d h = absurd (omega arith)
   near_parts zero (q ∷ qs) d h = sym (zero-add _)
@@ -85,21 +85,15 @@ module _ (x y least : Float) where
   -- no other mark is too near where no more are than mark i alone
   pub clear_counted :
       (i : ℕ) (points : List Point) (d : Point) → i < length points
-      → clear_of_others x y least i 0 points ≡ eqb (near_count x y least points) (bool_byte (not (apart x y least (get_or points i d))))
+      → clear_of_others p least i 0 points ≡ eqb (near_count p least points) (bool_byte (not (apart p least (get_or points i d))))
   clear_counted i points d h =
-      clear_others x y least i points h
+      clear_others p least i points h
       ∙ rw (none_near (take i points), none_near, add-one, near_parts i points d h)
-      (own_alone (near_count x y least (take i points)) (bool_byte (not (apart x y least (get_or points i d)))) (near_count x y least (drop (suc i) points)))
+      (own_alone (near_count p least (take i points)) (bool_byte (not (apart p least (get_or points i d)))) (near_count p least (drop (suc i) points)))
 
 -- ---- the pushes
 
--- a push in parts, for the code: the square of the distance, and whether it is one at which q pushes
-abbrev pub square_between : Point → Point → Float
-square_between p q =
-    let dx = p.x -ᶠ q.x in
-    let dy = p.y -ᶠ q.y in
-    dx *ᶠ dx +ᶠ dy *ᶠ dy
-
+-- a push in parts, for the code: whether a squared distance is one at which q pushes
 abbrev pub reaches : Float → Float → Bool
 reaches influence d2 = not (d2 ≤ᶠ 0ᶠ || d2 ≥ᶠ influence *ᶠ influence)
 
@@ -124,30 +118,30 @@ module _ (influence : Float) (p : Point) where
   push_others i points f h = push_from i i 0 points f (omega arith) h ∙ rw add-one
 
   pub reached :
-      (f : Force) (q : Point) (d : Float) → reaches influence (square_between p q) ≡ true → d ≡ sqrt (square_between p q)
+      (f : Force) (q : Point) (d : Float) → reaches influence (squared_distance p q) ≡ true → d ≡ sqrt (squared_distance p q)
       → let w = (influence -ᶠ d) /ᶠ influence in
       record { x = f.x +ᶠ w *ᶠ (p.x -ᶠ q.x) /ᶠ d; y = f.y +ᶠ w *ᶠ (p.y -ᶠ q.y) /ᶠ d } ≡ push_of influence p f q
   unfolding push_of
   reached f q d h e =
-      let d2 = square_between p q in
+      let d2 = squared_distance p q in
       rw (e, not-true (d2 ≤ᶠ 0ᶠ || d2 ≥ᶠ influence *ᶠ influence) h)
 
-  pub unreached : (f : Force) (q : Point) → reaches influence (square_between p q) ≡ false → f ≡ push_of influence p f q
+  pub unreached : (f : Force) (q : Point) → reaches influence (squared_distance p q) ≡ false → f ≡ push_of influence p f q
   unfolding push_of
   unreached f q h =
-      let d2 = square_between p q in
+      let d2 = squared_distance p q in
       rw (not-false (d2 ≤ᶠ 0ᶠ || d2 ≥ᶠ influence *ᶠ influence) h)
 
-  far : (q : Point) (f : Force) → apart p.x p.y (influence *ᶠ influence) q ≡ true → push_of influence p f q ≡ f
+  far : (q : Point) (f : Force) → apart p (influence *ᶠ influence) q ≡ true → push_of influence p f q ≡ f
   unfolding apart push_of
   far q f h = rw (h, or-true)
 
   -- none of the marks is near enough
-  pub far_all : (qs : List Point) (f : Force) → all (apart p.x p.y (influence *ᶠ influence)) qs ≡ true → foldl (push_of influence p) f qs ≡ f
+  pub far_all : (qs : List Point) (f : Force) → all (apart p (influence *ᶠ influence)) qs ≡ true → foldl (push_of influence p) f qs ≡ f
   unfolding all
   far_all [] f h = refl
   far_all (q ∷ qs) f h =
-      let e = both_true (apart p.x p.y (influence *ᶠ influence) q) (all (apart p.x p.y (influence *ᶠ influence)) qs) h in
+      let e = both_true (apart p (influence *ᶠ influence) q) (all (apart p (influence *ᶠ influence)) qs) h in
       rw (far q f e.0) (far_all qs f e.1)
 
   -- the pushes of the marks of a block, and those of a list whose first blocks are cut off
@@ -155,25 +149,53 @@ module _ (influence : Float) (p : Point) where
   block_pushes f block = foldl (push_of influence p) f (spots_of block)
 
   pub pushes_cut :
-      (f : Force) (k : ℕ) (l : List Float)
+      (n : ℕ) (f : Force) (k : ℕ) (l : List Float)
       → foldl (push_of influence p) f (spots_of l)
-      ≡ foldl (push_of influence p) (foldl block_pushes f (first_chunks 16 k l)) (spots_of (drop (k * 16) l))
-  pushes_cut f zero l = refl
-  pushes_cut f (suc k) l =
-      let step : suc k * 16 ≡ 16 + k * 16 = omega arith in
-      fold_block (push_of influence p) f 8 0 (spots_of l)
-      ∙ rw (step, ← drop-drop (k * 16) 16 l, ← spots_take 8 l, ← spots_drop 8 l) (pushes_cut (block_pushes f (take 16 l)) k (drop 16 l))
+      ≡ foldl (push_of influence p) (foldl block_pushes f (first_chunks (n * 2) k l)) (spots_of (drop (k * (n * 2)) l))
+  pushes_cut n f zero l = rw zero-mul
+  pushes_cut n f (suc k) l =
+      let step : suc k * (n * 2) ≡ n * 2 + k * (n * 2) = omega arith in
+      fold_block (push_of influence p) f n 0 (spots_of l)
+      ∙ rw (zero-add, step, ← drop-drop (k * (n * 2)) (n * 2) l, ← spots_take n l, ← spots_drop n l)
+      (pushes_cut n (block_pushes f (take (n * 2) l)) k (drop (n * 2) l))
+
+  -- the pushes of the two marks of a block, and of the one mark before a coordinate or none
+  pub pair_pushes :
+      (f : Force) (l : List Float) → length l ≡ 4
+      → block_pushes f l ≡ push_of influence p (push_of influence p f (spot_at l 0)) (spot_at l 1)
+  unfolding spots_of spot_at
+  pair_pushes f [] h = absurd (omega arith)
+  pair_pushes f (a ∷ []) h = absurd (omega arith)
+  pair_pushes f (a ∷ b ∷ []) h = absurd (omega arith)
+  pair_pushes f (a ∷ b ∷ c ∷ []) h = absurd (omega arith)
+  pair_pushes f (a ∷ b ∷ c ∷ d ∷ []) h = refl
+  pair_pushes f (a ∷ b ∷ c ∷ d ∷ e ∷ l) h = absurd (omega arith)
+
+  pub last_push : (f : Force) (l : List Float) → 1 < length l → length l < 4 → block_pushes f l ≡ push_of influence p f (spot_at l 0)
+  unfolding spots_of spot_at
+  last_push f [] h n = absurd (omega arith)
+  last_push f (a ∷ []) h n = absurd (omega arith)
+  last_push f (a ∷ b ∷ []) h n = refl
+  last_push f (a ∷ b ∷ c ∷ []) h n = refl
+  last_push f (a ∷ b ∷ c ∷ d ∷ l) h n = absurd (omega arith)
+
+  pub no_push : (f : Force) (l : List Float) → length l < 2 → block_pushes f l ≡ f
+  unfolding spots_of
+  no_push f [] h = refl
+  no_push f (a ∷ []) h = refl
+  no_push f (a ∷ b ∷ l) h = absurd (omega arith)
 
   -- a mark written behind the m of a list, and counted if it is near enough
   pub gathered :
       (near : List Point) (m : ℕ) (q : Point) (f : Force) → m < length near
-      → foldl (push_of influence p) f (take (m + bool_byte (not (apart p.x p.y (influence *ᶠ influence) q))) (set near m q))
+      → foldl (push_of influence p) f (take (m + bool_byte (not (apart p (influence *ᶠ influence) q))) (set near m q))
       ≡ push_of influence p (foldl (push_of influence p) f (take m near)) q
-  gathered near m q f h = go (apart p.x p.y (influence *ᶠ influence) q) refl
+  gathered near m q f h = go (apart p (influence *ᶠ influence) q) refl
     where
       go :
-          (b : Bool) → apart p.x p.y (influence *ᶠ influence) q ≡ b
-          → foldl (push_of influence p) f (take (m + bool_byte (not b)) (set near m q)) ≡ push_of influence p (foldl (push_of influence p) f (take m near)) q
+          (b : Bool) → apart p (influence *ᶠ influence) q ≡ b
+          → foldl (push_of influence p) f (take (m + bool_byte (not b)) (set near m q))
+          ≡ push_of influence p (foldl (push_of influence p) f (take m near)) q
       go true e =
           let z : m + 0 ≡ m = omega arith in
           rw (z, take-set-le m near m q (le_refl m)) (sym (far q (foldl (push_of influence p) f (take m near)) e))
@@ -196,7 +218,7 @@ reordered false false false v r = refl
 pub accepts_reordered :
     (field : Distances) (piece : Piece) (obstacles : List Rectangle) (candidate : Point) (i : ℕ) (points : List Point) (honoring : Bool)
     → accepts field piece obstacles candidate i points honoring
-    ≡ cond (clear_of_others candidate.x candidate.y (field.spacing *ᶠ field.spacing) i 0 points)
+    ≡ cond (clear_of_others candidate (field.spacing *ᶠ field.spacing) i 0 points)
     (cond (not (honoring && not (clear_of_obstacles candidate.x candidate.y obstacles field.inset)))
     (cond (signed_clearance candidate.x candidate.y piece <ᶠ field.inset) None (Some (signed_clearance candidate.x candidate.y piece)))
     None)
@@ -205,7 +227,7 @@ unfolding accepts
 accepts_reordered field piece obstacles candidate i points honoring =
     reordered (signed_clearance candidate.x candidate.y piece <ᶠ field.inset)
     (honoring && not (clear_of_obstacles candidate.x candidate.y obstacles field.inset))
-    (clear_of_others candidate.x candidate.y (field.spacing *ᶠ field.spacing) i 0 points)
+    (clear_of_others candidate (field.spacing *ᶠ field.spacing) i 0 points)
     (Some (signed_clearance candidate.x candidate.y piece))
     None
 

@@ -1,5 +1,5 @@
 // relax.rs, `Field`.
-ghost use Rattle.std.specs.Prelude.{◌≡◌, not, ◌&&◌, ◌/◌, ◌<◌, length, option_map};
+ghost use Rattle.std.specs.Prelude.{◌≡◌, option_map};
 ghost use Rattle.float.specs.Ops.{◌*ᶠ◌};
 ghost use Rattle.glyphs.specs.Rect.{clear_of_obstacles};
 ghost use Rattle.glyphs.specs.Spots.{spots_of};
@@ -9,9 +9,10 @@ ghost use Rattle.regions.specs.Unrooted.{rooted};
 ghost use Rattle.relax.specs.Field.{clearance_gradient, push_inward, force_on, clear_of_others, accepts};
 
 use crate::distances::Distances;
+use crate::marks::Mark;
 use crate::push::{Force, push_others};
 use glyphs::rect::{Point, Rectangle};
-use glyphs::spots::{apart, apart_from_all, count_near, spot, spots_after, spots_before};
+use glyphs::spots::{apart, apart_from_all, count_near};
 use regions::four::{Four, four_clearances};
 use regions::piece::RegionPiece;
 use regions::pillars::clears_obstacles;
@@ -33,19 +34,14 @@ impl<'a> Field<'a> {
         ensures { result ≡ clearance_gradient self.now.distances (rings_of self.now.piece) p }
     {
         let h = self.distances.probe;
-        let xs = Four {
-            a: p.x + h,
-            b: p.x - h,
-            c: p.x,
-            d: p.x,
+        let Point { x, y } = p;
+        let places = Four {
+            a: Point { x: x + h, y },
+            b: Point { x: x - h, y },
+            c: Point { x, y: y + h },
+            d: Point { x, y: y - h },
         };
-        let ys = Four {
-            a: p.y,
-            b: p.y,
-            c: p.y + h,
-            d: p.y - h,
-        };
-        let around = four_clearances(xs, ys, self.piece);
+        let around = four_clearances(places, self.piece);
         let gx = around.a - around.b;
         let gy = around.c - around.d;
         let norm = float::hypot(gx, gy);
@@ -74,56 +70,56 @@ impl<'a> Field<'a> {
         }
     }
 
-    pub fn force_on(&self, i: usize, spots: &[f64], unrooted: f64) -> Force
-        requires { i < length spots.now / 2 }
-        ensures { result ≡ force_on self.now.distances (rings_of self.now.piece) i (spots_of spots.now) (rooted unrooted) }
+    pub fn force_on(&self, mark: Mark) -> Force
+        ensures { result
+            ≡ force_on self.now.distances (rings_of self.now.piece) mark.entry.i (spots_of mark.entry.spots.now) (rooted mark.entry.unrooted) }
     {
         // The gradient stands first: the others' pushes are worked out while its roots are waited for.
         let influence = self.distances.influence;
-        if rooted_below(unrooted, self.distances.reach) & (self.distances.boundary_reach > 0.0) {
-            let gradient = self.clearance_gradient(spot(spots, i));
-            let f = push_others(influence, i, spots);
-            return self.push_inward(rooted(unrooted), gradient, f);
+        if rooted_below(mark.unrooted, self.distances.reach)
+            & (self.distances.boundary_reach > 0.0)
+        {
+            let gradient = self.clearance_gradient(mark.place());
+            let f = push_others(influence, mark);
+            return self.push_inward(rooted(mark.unrooted), gradient, f);
         }
-        push_others(influence, i, spots)
+        push_others(influence, mark)
     }
 
-    // Whether a place keeps the spacing to all marks but mark `i`. Of few marks those too near are counted, mark `i` among
-    // them, with no branch.
-    fn clear_of_others(&self, place: Point, i: usize, spots: &[f64]) -> bool
-        requires { i < length spots.now / 2 }
-        ensures { result ≡ clear_of_others place.x place.y (self.now.distances.spacing *ᶠ self.now.distances.spacing) i 0 (spots_of spots.now) }
+    // Whether a place keeps the spacing to all marks but one. Of few marks those too near are counted, that one among them,
+    // with no branch.
+    fn clear_of_others(&self, place: Point, mark: Mark) -> bool
+        ensures { result
+            ≡ clear_of_others place (self.now.distances.spacing *ᶠ self.now.distances.spacing) mark.entry.i 0 (spots_of mark.entry.spots.now) }
     {
         let least = self.distances.spacing * self.distances.spacing;
-        if spots.len() <= 64 {
-            let own = !apart(place.x, place.y, least, spot(spots, i));
-            return count_near(place.x, place.y, least, spots) == own as usize;
+        if mark.spots.len() <= 64 {
+            let own = !apart(place, least, mark.place());
+            return count_near(place, least, mark.spots) == own as usize;
         }
-        let before = apart_from_all(place.x, place.y, least, spots_before(spots, i));
-        before & apart_from_all(place.x, place.y, least, spots_after(spots, i))
+        let before = apart_from_all(place, least, mark.earlier());
+        before & apart_from_all(place, least, mark.later())
     }
 
-    // Whether a place is clear of the obstacles, where that is asked of it: `honoring` is what was noted of the mark.
-    fn clear_if(&self, honoring: bool, place: Point) -> bool
-        ensures { result ≡ not (honoring && not (clear_of_obstacles place.x place.y self.now.obstacles.now self.now.distances.inset)) }
+    // Whether a place is clear of the obstacles.
+    fn clears(&self, place: Point) -> bool
+        ensures { result ≡ clear_of_obstacles place.x place.y self.now.obstacles.now self.now.distances.inset }
     {
-        if honoring {
-            return clears_obstacles(place.x, place.y, self.obstacles, self.distances.margin);
-        }
-        true
+        clears_obstacles(place.x, place.y, self.obstacles, self.distances.margin)
     }
 
-    // The clearance of a place that mark `i` may move to, its root not taken; `honoring` is what was noted of it. The tests
-    // stand in the order of their cost, not of the source: none reads what another finds.
-    pub fn accepts(&self, candidate: Point, i: usize, spots: &[f64], honoring: bool) -> Option<f64>
-        requires { i < length spots.now / 2 }
+    // The clearance of a place that a mark may move to, its root not taken. The tests stand in the order of their cost, not of
+    // the source: none reads what another finds.
+    pub fn accepts(&self, candidate: Point, mark: Mark) -> Option<f64>
         ensures { option_map rooted result
-            ≡ accepts self.now.distances (rings_of self.now.piece) self.now.obstacles.now candidate i (spots_of spots.now) honoring }
+            ≡ accepts self.now.distances (rings_of self.now.piece) self.now.obstacles.now candidate mark.entry.i
+            (spots_of mark.entry.spots.now)
+            mark.entry.honoring }
     {
-        if !self.clear_of_others(candidate, i, spots) {
+        if !self.clear_of_others(candidate, mark) {
             return None;
         }
-        if !self.clear_if(honoring, candidate) {
+        if mark.honoring && !self.clears(candidate) {
             return None;
         }
         let unrooted = unrooted_clearance(candidate.x, candidate.y, self.piece);

@@ -7,10 +7,10 @@ ghost use Rattle.relax.specs.Moves.{scatter_of, surroundings, first_accepted, pu
 
 use crate::Spreading;
 use crate::field::Field;
-use crate::marks::Marks;
+use crate::marks::{Mark, Marks};
 use crate::push::Force;
 use glyphs::rect::{Point, is_finite};
-use glyphs::spots::{put_spot, spot};
+use glyphs::spots::put_spot;
 
 // Where a mark moves to, and the clearance of that place, its root not taken.
 #[derive(Clone, Copy)]
@@ -19,30 +19,26 @@ pub struct Move {
     pub clearance: f64,
 }
 
-// A step of length `first` in a direction, halved at each refusal, `backtracks` times at most. `honoring`, here and below, is
-// what was noted of mark `i`.
+// A step of length `first` in a direction, halved at each refusal, `backtracks` times at most.
 fn first_accepted(
     field: &Field,
-    i: usize,
-    spots: &[f64],
-    honoring: bool,
+    mark: Mark,
     towards: Force,
     backtracks: u32,
     first: f64,
 ) -> Option<Move>
-    requires { i < length spots.now / 2 }
     ensures { told_of result
-        ≡ first_accepted field.now.distances (rings_of field.now.piece) field.now.obstacles.now i (spots_of spots.now) honoring towards
-        (suc backtracks) first }
+        ≡ first_accepted field.now.distances (rings_of field.now.piece) field.now.obstacles.now mark.entry.i
+        (spots_of mark.entry.spots.now) mark.entry.honoring towards (suc backtracks) first }
 {
-    let p = spot(spots, i);
+    let p = mark.place();
     let mut step = first;
     for _ in 0..=backtracks {
         let to = Point {
             x: p.x + towards.x * step,
             y: p.y + towards.y * step,
         };
-        if let Some(clearance) = field.accepts(to, i, spots, honoring) {
+        if let Some(clearance) = field.accepts(to, mark) {
             return Some(Move { to, clearance });
         }
         step = step * 0.5;
@@ -50,20 +46,11 @@ fn first_accepted(
     None
 }
 
-// Where a push moves mark `i` to.
-fn pushed_to(
-    field: &Field,
-    i: usize,
-    spots: &[f64],
-    honoring: bool,
-    f: Force,
-    backtracks: u32,
-    max_step: f64,
-) -> Option<Move>
-    requires { i < length spots.now / 2 }
+// Where a push moves a mark to.
+fn pushed_to(field: &Field, mark: Mark, f: Force, backtracks: u32, max_step: f64) -> Option<Move>
     ensures { told_of result
-        ≡ pushed_to field.now.distances (rings_of field.now.piece) field.now.obstacles.now i (spots_of spots.now) honoring f (suc backtracks)
-        max_step }
+        ≡ pushed_to field.now.distances (rings_of field.now.piece) field.now.obstacles.now mark.entry.i
+        (spots_of mark.entry.spots.now) mark.entry.honoring f (suc backtracks) max_step }
 {
     let magnitude = float::hypot(f.x, f.y);
     if !is_finite(magnitude) | (magnitude <= 0.0) {
@@ -74,7 +61,7 @@ fn pushed_to(
         y: f.y / magnitude,
     };
     let step = max_step * float::min(magnitude, 1.0);
-    first_accepted(field, i, spots, honoring, towards, backtracks, step)
+    first_accepted(field, mark, towards, backtracks, step)
 }
 
 // Moves mark `i`, if it moves.
@@ -102,16 +89,14 @@ fn move_of(
     ensures { settled (scatter_of marks.now) i (told_of result)
         ≡ relax_point numbers (surroundings field.now marks.now.honoring.now) max_step (scatter_of marks.now) i }
 {
-    let f = field.force_on(i, marks.spots, marks.unrooted[i]);
-    pushed_to(
-        field,
+    let mark = Mark {
+        spots: marks.spots,
         i,
-        marks.spots,
-        marks.honoring[i],
-        f,
-        numbers.backtracks,
-        max_step,
-    )
+        unrooted: marks.unrooted[i],
+        honoring: marks.honoring[i],
+    };
+    let f = field.force_on(mark);
+    pushed_to(field, mark, f, numbers.backtracks, max_step)
 }
 
 pub fn relax_point(numbers: Spreading, field: &Field, max_step: f64, marks: &mut Marks, i: usize)

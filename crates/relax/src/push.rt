@@ -1,28 +1,20 @@
 // relax.rs, `force_on`: the pushes of the neighbours.
 ghost use Rattle.std.specs.Prelude.{◌≡◌, true, ◌+◌, ◌/◌, ◌≤◌, ◌<◌, length, take, drop};
 ghost use mathlib.Core.List.{foldl};
-ghost use Rattle.glyphs.specs.Spots.{spots_of};
+ghost use Rattle.glyphs.specs.Spots.{spots_of, squared_distance};
 ghost use Rattle.float.specs.Order.{sqrt};
 ghost use Rattle.relax.specs.Field.{at, no_force, push_of, pushes};
-ghost use Rattle.relax.specs.Others.{square_between, reaches};
+ghost use Rattle.relax.specs.Others.{reaches};
 
-use glyphs::rect::Point;
-use glyphs::spots::{apart, apart_from_eight, put_spot, spot, spots_after, spots_before};
+use crate::marks::Mark;
+use glyphs::rect::{Point, squared_distance};
+use glyphs::spots::{apart, apart_from_eight, put_spot, spot};
 
 // A push on a mark.
 #[derive(Clone, Copy)]
 pub struct Force {
     pub x: f64,
     pub y: f64,
-}
-
-// The square of the distance between two marks.
-fn square_between(p: Point, q: Point) -> f64
-    ensures { result ≡ square_between p q }
-{
-    let dx = p.x - q.x;
-    let dy = p.y - q.y;
-    dx * dx + dy * dy
 }
 
 // Whether a neighbour pushes, by the square of its distance.
@@ -34,7 +26,7 @@ fn reaches(influence: f64, d2: f64) -> bool
 
 // The push of the neighbour q, which is at the distance d, added to the push so far.
 fn pushed(influence: f64, p: Point, f: Force, q: Point, d: f64) -> Force
-    requires { (reaches influence (square_between p q) ≡ true) × (d ≡ sqrt (square_between p q)) }
+    requires { (reaches influence (squared_distance p q) ≡ true) × (d ≡ sqrt (squared_distance p q)) }
     ensures { result ≡ push_of influence p f q }
 {
     let w = (influence - d) / influence;
@@ -48,7 +40,7 @@ fn pushed(influence: f64, p: Point, f: Force, q: Point, d: f64) -> Force
 fn push(influence: f64, p: Point, f: Force, q: Point) -> Force
     ensures { result ≡ push_of influence p f q }
 {
-    let d2 = square_between(p, q);
+    let d2 = squared_distance(p, q);
     if reaches(influence, d2) {
         return pushed(influence, p, f, q, float::root(d2));
     }
@@ -59,8 +51,8 @@ fn push(influence: f64, p: Point, f: Force, q: Point) -> Force
 fn push_two(influence: f64, p: Point, f: Force, q: Point, r: Point) -> Force
     ensures { result ≡ push_of influence p (push_of influence p f q) r }
 {
-    let d2 = square_between(p, q);
-    let e2 = square_between(p, r);
+    let d2 = squared_distance(p, q);
+    let e2 = squared_distance(p, r);
     if reaches(influence, d2) & reaches(influence, e2) {
         let [d, e] = float::each_root([d2, e2]);
         let first = pushed(influence, p, f, q, d);
@@ -73,23 +65,22 @@ fn push_two(influence: f64, p: Point, f: Force, q: Point, r: Point) -> Force
 fn push_near(influence: f64, p: Point, start: Force, spots: &[f64]) -> Force
     ensures { result ≡ foldl (push_of influence p) start (spots_of spots.now) }
 {
-    let n = spots.len() / 2;
+    let (pairs, last) = spots.as_chunks::<4>();
     let mut f = start;
-    for pair in 0..n / 2 {
-        let k = pair * 2;
-        f = push_two(influence, p, f, spot(spots, k), spot(spots, k + 1));
+    for pair in pairs {
+        f = push_two(influence, p, f, spot(&pair[..], 0), spot(&pair[..], 1));
     }
-    if n % 2 == 1 {
-        return push(influence, p, f, spot(spots, n - 1));
+    if last.len() < 2 {
+        return f;
     }
-    f
+    push(influence, p, f, spot(last, 0))
 }
 
 // The pushes of the eight marks of a block. Mostly all are too far away, and eight are told so at once, with no branch for each.
 fn push_eight(influence: f64, p: Point, start: Force, block: &[f64; 16]) -> Force
     ensures { result ≡ foldl (push_of influence p) start (spots_of block.now) }
 {
-    if apart_from_eight(p.x, p.y, influence * influence, &block[..], 0) {
+    if apart_from_eight(p, influence * influence, block) {
         return start;
     }
     push_near(influence, p, start, &block[..])
@@ -109,7 +100,8 @@ fn push_all(influence: f64, p: Point, start: Force, spots: &[f64]) -> Force
 
 // Puts the marks of a slice that are near enough to push behind the `m` of a list, and answers how many there are then.
 // Which these are nobody can guess, so there is no branch on it: a mark that is not is overwritten. A vector has nothing
-// to overwrite behind its last, so the list is the front of an array, with its count beside it.
+// to overwrite behind its last, so the list is the front of an array, with its count beside it. It is of coordinates, as
+// the marks are, so that `push_near` goes through both.
 fn gather(influence: f64, p: Point, spots: &[f64], near: &mut [f64], m: usize) -> usize
     requires { m + length spots.now / 2 ≤ length near.old / 2 }
     ensures few { result ≤ m + length spots.now / 2 }
@@ -122,37 +114,34 @@ fn gather(influence: f64, p: Point, spots: &[f64], near: &mut [f64], m: usize) -
     for k in 0..spots.len() / 2 {
         let q = spot(spots, k);
         put_spot(&mut near[..], count, q);
-        let far = apart(p.x, p.y, reach, q);
+        let far = apart(p, reach, q);
         count += (!far) as usize;
     }
     count
 }
 
-// The pushes of all other marks on mark `i`, which is at p: of few marks those near enough are gathered first.
-fn push_few(influence: f64, p: Point, i: usize, spots: &[f64]) -> Force
-    requires { (i < length spots.now / 2) × (length spots.now ≤ 64) }
-    ensures { result ≡ foldl (push_of influence p) (foldl (push_of influence p) no_force (take i (spots_of spots.now))) (drop (i + 1) (spots_of spots.now)) }
+// The pushes of all other marks on a mark, which is at p: of few marks those near enough are gathered first.
+fn push_few(influence: f64, p: Point, mark: Mark) -> Force
+    requires { length mark.spots.now ≤ 64 }
+    ensures { result
+        ≡ foldl (push_of influence p) (foldl (push_of influence p) no_force (take mark.entry.i (spots_of mark.entry.spots.now)))
+        (drop (mark.entry.i + 1) (spots_of mark.entry.spots.now)) }
 {
     let mut near = [0.0; 64];
-    let before = gather(influence, p, spots_before(spots, i), &mut near[..], 0);
-    let all = gather(influence, p, spots_after(spots, i), &mut near[..], before);
+    let before = gather(influence, p, mark.earlier(), &mut near[..], 0);
+    let all = gather(influence, p, mark.later(), &mut near[..], before);
     push_near(influence, p, Force { x: 0.0, y: 0.0 }, &near[..all * 2])
 }
 
-// The pushes of all other marks on mark `i`.
-pub fn push_others(influence: f64, i: usize, spots: &[f64]) -> Force
-    requires { i < length spots.now / 2 }
-    ensures { result ≡ pushes influence i (at (spots_of spots.now) i) 0 (spots_of spots.now) no_force }
+// The pushes of all other marks on a mark.
+pub fn push_others(influence: f64, mark: Mark) -> Force
+    ensures { result
+        ≡ pushes influence mark.entry.i (at (spots_of mark.entry.spots.now) mark.entry.i) 0 (spots_of mark.entry.spots.now) no_force }
 {
-    let p = spot(spots, i);
-    if spots.len() <= 64 {
-        return push_few(influence, p, i, spots);
+    let p = mark.place();
+    if mark.spots.len() <= 64 {
+        return push_few(influence, p, mark);
     }
-    let f = push_all(
-        influence,
-        p,
-        Force { x: 0.0, y: 0.0 },
-        spots_before(spots, i),
-    );
-    push_all(influence, p, f, spots_after(spots, i))
+    let f = push_all(influence, p, Force { x: 0.0, y: 0.0 }, mark.earlier());
+    push_all(influence, p, f, mark.later())
 }

@@ -33,6 +33,7 @@ fn relax_sweep(numbers: Spreading, field: &Field, k: u32, marks: &mut Marks)
     ensures moved { scatter_of marks.new ≡ relax_sweep numbers (surroundings field.now marks.old.honoring.now) (scatter_of marks.old) k }
 {
     let max_step = longest_step(numbers, field.distances.spacing, k);
+    // The body reads and moves the marks, so these cannot be lent to the `for`.
     for i in 0..marks.honoring.len() {
         relax_point(numbers, field, max_step, marks, i);
     }

@@ -1,4 +1,5 @@
--- Sizes: `Sized x k` is a finite number of size k at most, k a whole number. Sums, differences, products and quotients of such are such, so they are neither NaN nor infinite.
+-- Sizes: `Sized x k` is a finite number of size k at most, k a whole number. Sums, differences, products and quotients of
+-- such are such, so they are neither NaN nor infinite.
 -- Rests on `Errors`: a whole number below 2 ^ 53 is not passed by rounding.
 use Rattle.std.proofs.Common.{lt_of_lt_of_le, mul-pos, le_trans, le_of_lt, mul-le-mul, mul-le-mul_left, mul-le-mul_right, arith}
 use Rattle.std.specs.Prelude.{true, false, ℕ, zero, suc, ◌+◌, ◌*◌, ◌≤◌, ◌<◌, Float}
@@ -20,7 +21,11 @@ module _ {x y : Float} {a b : ℕ} (p : Sized x a) (q : Sized y b) where
       let s = add_law x y p.num q.num (omega (arith, p.size, q.size, room (a + b) U h)) in
       let l = signed_le (sgn x) (mag x) in
       let k = signed_le (sgn y) (mag y) in
-      record { num = s.num; size = inside (sgn (x +ᶠ y)) (mag (x +ᶠ y)) ((a + b) * U) (s.least true ((a + b) * U) d (omega (arith, p.size, q.size))) (s.most false ((a + b) * U) d (omega (arith, p.size, q.size))) }
+      record {
+        num = s.num;
+        size = inside (sgn (x +ᶠ y)) (mag (x +ᶠ y)) ((a + b) * U)
+            (s.least true ((a + b) * U) d (omega (arith, p.size, q.size))) (s.most false ((a + b) * U) d (omega (arith, p.size, q.size)));
+      }
 
   pub sub_sized : a + b < E → Sized (x -ᶠ y) (a + b)
   sub_sized h =
@@ -28,7 +33,11 @@ module _ {x y : Float} {a b : ℕ} (p : Sized x a) (q : Sized y b) where
       let s = sub_law x y p.num q.num (omega (arith, p.size, q.size, room (a + b) U h)) in
       let l = signed_le (sgn x) (mag x) in
       let k = signed_le (sgn y) (mag y) in
-      record { num = s.num; size = inside (sgn (x -ᶠ y)) (mag (x -ᶠ y)) ((a + b) * U) (s.least true ((a + b) * U) d (omega (arith, p.size, q.size))) (s.most false ((a + b) * U) d (omega (arith, p.size, q.size))) }
+      record {
+        num = s.num;
+        size = inside (sgn (x -ᶠ y)) (mag (x -ᶠ y)) ((a + b) * U)
+            (s.least true ((a + b) * U) d (omega (arith, p.size, q.size))) (s.most false ((a + b) * U) d (omega (arith, p.size, q.size)));
+      }
 
   pub mul_sized : a * b < E → Sized (x *ᶠ y) (a * b)
   mul_sized h =

@@ -4,20 +4,22 @@ use Rattle.std.specs.Prelude.{◌≡◌, refl, Bool, true, false, ℕ, ◌+◌, 
 use Rattle.std.proofs.Common.{ap, ◌∙◌, subst, le_of_mul-le-mul_right, mul-le-mul_right, arith, lit<}
 use Rattle.std.specs.Float.Ieee.{unlike}
 use Rattle.float.specs.Ops.{◌-ᶠ◌}
-use Rattle.float.specs.Whole.{floor}
 use Rattle.rounding.specs.Signed.{Exact, signed, signed_le, nat, abs, ◌⊕◌, ◌⊖◌, ◌⊗◌, ◌≼◌, ◌≺◌}
 use Rattle.rounding.specs.Relative.{Close, close_wider, close_signed}
 use Rattle.rounding.specs.Value.{U, U_pos, E, H, sgn, mag, val}
 use Rattle.rounding.proofs.Errors.{sub_of_finite, div_of_finite}
 use Rattle.rounding.specs.Bounds.{Sized}
 use Rattle.rounding.proofs.Bounds.{sub_sized, div_sized}
-use Rattle.rounding.specs.Integers.{int, below, above}
+use Rattle.rounding.specs.Integers.{int}
 use Rattle.rounding.specs.Casts.{IsFloor, floor_i64}
 use Rattle.rounding.specs.Distance.{Length, length_above, length_plus, tiny, tiny_is, tiny_big}
 use Rattle.rounding.specs.Cells.{cell_of, ratio}
 
--- ---- numbers only: places X and X', M the least of them; computed differences A and A'; computed quotients Q and Q' by C. e stands for E, u for U, t for 2 ^ -30
-quotients : (e u C k ap an bp bn qp qn rp rn : ℕ) → 0 < u → qp + u + rn ≤ rp + qn → ap * u * e + qn * C * e ≤ qp * C * e + an * u * e + u * k → rp * C * e + bn * u * e ≤ bp * u * e + rn * C * e + u * k
+-- ---- numbers only: places X and X', M the least of them; computed differences A and A'; computed quotients Q and Q' by C.
+-- e stands for E, u for U, t for 2 ^ -30
+quotients :
+    (e u C k ap an bp bn qp qn rp rn : ℕ) → 0 < u → qp + u + rn ≤ rp + qn → ap * u * e + qn * C * e ≤ qp * C * e + an * u * e + u * k
+    → rp * C * e + bn * u * e ≤ bp * u * e + rn * C * e + u * k
     → ap * e + C * e + bn * e ≤ bp * e + an * e + 2 * k
 quotients e u C k ap an bp bn qp qn rp rn u0 q c d = le_of_mul-le-mul_right {k = u} (omega (arith, c, d, mul-le-mul_right (C * e) q)) u0
 
@@ -34,7 +36,8 @@ unlike_plus true = refl
 unlike_plus false = refl
 
 -- sizes times c and u, with one sign
-signed_close : (e k m c n u : ℕ) (s t : Bool) → s ≡ t → Close e k (signed s (m * c)) (signed s (n * u)) → Close e k (signed s m ⊗ nat c) (signed t n ⊗ nat u)
+signed_close :
+    (e k m c n u : ℕ) (s t : Bool) → s ≡ t → Close e k (signed s (m * c)) (signed s (n * u)) → Close e k (signed s m ⊗ nat c) (signed t n ⊗ nat u)
 signed_close e k m c n u s t q h = subst (λ (b : Bool). Close e k (signed s m ⊗ nat c) (signed b n ⊗ nat u)) q (go s h)
   where
     go : (s : Bool) → Close e k (signed s (m * c)) (signed s (n * u)) → Close e k (signed s m ⊗ nat c) (signed s n ⊗ nat u)
@@ -58,8 +61,14 @@ located x min cell X M c =
     let sign : sgn Q ≡ sgn D = w.sign ∙ ap (λ (t : Bool). unlike (sgn D) t) (length_plus c) ∙ unlike_plus (sgn D) in
     record {
       floor = floor_i64 Q 137438953472 q.num q.size (lit< tt);
-      quot = close_wider E (mag D * U + mag cell * H) (U * (131072 * U + 65536 * H)) (val Q ⊗ nat (mag cell)) (val D ⊗ nat U) (bound (mag D) (mag cell) U d.size c.sized.size) (signed_close E (mag D * U + mag cell * H) (mag Q) (mag cell) (mag D) U (sgn Q) (sgn D) sign (close_signed E (mag cell * H) (mag Q * mag cell) (mag D * U) (sgn Q) w.near));
-      diff = close_wider E (abs (val x ⊖ val min)) (131072 * U) (val D) (val x ⊖ val min) (omega (arith, signed_le (sgn x) (mag x), signed_le (sgn min) (mag min), X.size, M.size)) r.close;
+      quot =
+          close_wider E (mag D * U + mag cell * H) (U * (131072 * U + 65536 * H)) (val Q ⊗ nat (mag cell)) (val D ⊗ nat U)
+          (bound (mag D) (mag cell) U d.size c.sized.size)
+          (signed_close E (mag D * U + mag cell * H) (mag Q) (mag cell) (mag D) U (sgn Q)
+          (sgn D) sign (close_signed E (mag cell * H) (mag Q * mag cell) (mag D * U) (sgn Q) w.near));
+      diff =
+          close_wider E (abs (val x ⊖ val min)) (131072 * U) (val D) (val x ⊖ val min)
+          (omega (arith, signed_le (sgn x) (mag x), signed_le (sgn min) (mag min), X.size, M.size)) r.close;
     }
   where
     bound : (d c u : ℕ) → d ≤ 131072 * u → c ≤ 65536 * u → d * u + c * H ≤ u * (131072 * u + 65536 * H)
@@ -74,7 +83,8 @@ pub cells_apart : (x x' min cell : Float) → Sized x 65536 → Sized x' 65536 �
 cells_apart x x' min cell X X' M c h =
     let P = located x min cell X M c in
     let P' = located x' min cell X' M c in
-    pure E U (mag cell) (131072 * U + 65536 * H) (131072 * U) tiny (val x) (val x') (val min) (val (x -ᶠ min)) (val (x' -ᶠ min)) (val (ratio x min cell)) (val (ratio x' min cell)) U_pos (lit< tt)
+    pure E U (mag cell) (131072 * U + 65536 * H) (131072 * U) tiny (val x) (val x') (val min)
+    (val (x -ᶠ min)) (val (x' -ᶠ min)) (val (ratio x min cell)) (val (ratio x' min cell)) U_pos (lit< tt)
     (step (int (cell_of x min cell)) (int (cell_of x' min cell)) (val (ratio x min cell)) (val (ratio x' min cell)) U h P.floor.high P'.floor.low)
     P.quot P'.quot P.diff P'.diff room
   where

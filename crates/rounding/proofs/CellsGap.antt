@@ -8,7 +8,9 @@ use Rattle.rounding.specs.Distance.{Length, tiny, gap, gap_of_lem, gap_sym, Spac
 use Rattle.rounding.specs.Cells.{TwoApart, cell_of}
 use Rattle.rounding.proofs.Cells.{cells_apart}
 
-cells_gap : (x x' min cell : Float) → Sized x 65536 → Sized x' 65536 → Sized min 65536 → Length cell → TwoApart (cell_of x min cell) (cell_of x' min cell) → mag cell ≤ gap x x' + tiny
+cells_gap :
+    (x x' min cell : Float) → Sized x 65536 → Sized x' 65536 → Sized min 65536 → Length cell → TwoApart (cell_of x min cell) (cell_of x' min cell)
+    → mag cell ≤ gap x x' + tiny
 unfolding TwoApart
 cells_gap x x' min cell X X' M c (inl h) = gap_of_lem x x' (mag cell) tiny (cells_apart x x' min cell X X' M c h)
 cells_gap x x' min cell X X' M c (inr h) = rw (gap_sym x x') (gap_of_lem x' x (mag cell) tiny (cells_apart x' x min cell X' X M c h))

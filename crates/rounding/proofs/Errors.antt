@@ -72,7 +72,8 @@ module _ (x y : Float) (p : Num x) (q : Num y) where
       let is = mul_is x y p q in
       let s = unlike (sgn x) (sgn y) in
       let n = mag x * mag y in
-      let r : Rounded (x *ᶠ y) s (n * U) (U * U) = subst (λ (z : Float). Rounded z s (n * U) (U * U)) (sym is) (rounded s n (U * U) (mul-pos U_pos U_pos) (subst (λ (z : Float). T (finite z)) is f)) in
+      let r : Rounded (x *ᶠ y) s (n * U) (U * U) =
+      subst (λ (z : Float). Rounded z s (n * U) (U * U)) (sym is) (rounded s n (U * U) (mul-pos U_pos U_pos) (subst (λ (z : Float). T (finite z)) is f)) in
       record {
         num = r.num;
         sign = r.sign;
@@ -82,7 +83,8 @@ module _ (x y : Float) (p : Num x) (q : Num y) where
       }
 
   pub mul_finite : mag x * mag y ≤ U * U * B → T (finite (x *ᶠ y))
-  mul_finite h = subst (λ (z : Float). T (finite z)) (sym (mul_is x y p q)) (round_bounded (unlike (sgn x) (sgn y)) (mag x * mag y) (U * U) (mul-pos U_pos U_pos) h)
+  mul_finite h =
+      subst (λ (z : Float). T (finite z)) (sym (mul_is x y p q)) (round_bounded (unlike (sgn x) (sgn y)) (mag x * mag y) (U * U) (mul-pos U_pos U_pos) h)
 
   pub mul_law : mag x * mag y ≤ U * U * B → Product x y (x *ᶠ y)
   mul_law h = mul_of_finite (mul_finite h)
@@ -91,7 +93,8 @@ module _ (x y : Float) (p : Num x) (q : Num y) where
   div_of_finite y0 f =
       let is = div_is x y p q y0 in
       let s = unlike (sgn x) (sgn y) in
-      let r : Rounded (x /ᶠ y) s (mag x * U) (mag y) = subst (λ (z : Float). Rounded z s (mag x * U) (mag y)) (sym is) (rounded s (mag x) (mag y) y0 (subst (λ (z : Float). T (finite z)) is f)) in
+      let r : Rounded (x /ᶠ y) s (mag x * U) (mag y) =
+      subst (λ (z : Float). Rounded z s (mag x * U) (mag y)) (sym is) (rounded s (mag x) (mag y) y0 (subst (λ (z : Float). T (finite z)) is f)) in
       record { num = r.num; sign = r.sign; near = r.near; least = r.least; most = r.most }
 
   pub div_finite : 0 < mag y → mag x ≤ mag y * B → T (finite (x /ᶠ y))

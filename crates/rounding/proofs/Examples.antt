@@ -100,8 +100,10 @@ coordinates = (
 -- the greatest radius with the greatest gap, and the least radius with none
 lengths : Length (2ᶠ *ᶠ thousand *ᶠ (1ᶠ +ᶠ sixteen)) × Length (2ᶠ *ᶠ smallest *ᶠ (1ᶠ +ᶠ 0ᶠ))
 lengths = (
-  spacing_length 1024 (lit≤ tt) thousand sixteen thousand_sized (unfold of_bits sgn in omega arith) sixteen_sized (unfold of_bits sgn in omega arith) (unfold of_bits mag U in lit≤ tt),
-  spacing_length 1024 (lit≤ tt) smallest 0ᶠ smallest_sized (unfold of_bits sgn in omega arith) (wider (lit≤ tt) zero_sized) (rw zero_val (omega arith)) (unfold of_bits mag U in lit≤ tt),
+  spacing_length 1024 (lit≤ tt) thousand sixteen thousand_sized (unfold of_bits sgn in omega arith) sixteen_sized
+      (unfold of_bits sgn in omega arith) (unfold of_bits mag U in lit≤ tt),
+  spacing_length 1024 (lit≤ tt) smallest 0ᶠ smallest_sized (unfold of_bits sgn in omega arith)
+      (wider (lit≤ tt) zero_sized) (rw zero_val (omega arith)) (unfold of_bits mag U in lit≤ tt),
 )
 
 -- ---- spacing from squares: (-65536, 65536) and (65536, 65536), the spacing 65536
@@ -130,7 +132,9 @@ unfolding odd
 rows = (refl, refl, refl, refl, refl)
 
 -- the anchor far out, the least spacing, and the cells (2 ^ 31 + 1, -(2 ^ 32 - 1)) and (0, 0)
-farthest : Spaced least (across most (offset (odd (negsuc 4294967294)) least) (pos 2147483649) least) (along most (negsuc 4294967294) (hex_row least)) (across most (offset (odd (pos 0)) least) (pos 0) least) (along most (pos 0) (hex_row least))
+farthest :
+    Spaced least (across most (offset (odd (negsuc 4294967294)) least) (pos 2147483649) least)
+    (along most (negsuc 4294967294) (hex_row least)) (across most (offset (odd (pos 0)) least) (pos 0) least) (along most (pos 0) (hex_row least))
 farthest =
     hexagonal least most most shortest most_sized most_sized (pos 2147483649) (negsuc 4294967294) (pos 0) (pos 0)
     (unfold of_bits mag U in lit≤ tt) (unfold root_of div mul of_bits mag U in lit≤ tt) (omega arith) (omega arith) (λ e f. differ e)
@@ -139,9 +143,12 @@ farthest =
     differ e = let z : ◌≡◌ {A = ℕ} 0 1 = cc in omega arith
 
 -- neighbours in one row at the greatest spacing
-beside : Spaced most (across 0ᶠ (offset false most) (pos 1) most) (along 0ᶠ (pos 0) most) (across 0ᶠ (offset false most) (pos 0) most) (along 0ᶠ (pos 0) most)
+beside :
+    Spaced most (across 0ᶠ (offset false most) (pos 1) most) (along 0ᶠ (pos 0) most)
+    (across 0ᶠ (offset false most) (pos 0) most) (along 0ᶠ (pos 0) most)
 beside =
-    rectangular most 0ᶠ 0ᶠ longest origin_sized origin_sized (pos 1) (pos 0) (pos 0) (pos 0) (omega (arith, most_sized.size)) (omega arith) (omega arith) (omega arith) (λ e f. differ e)
+    rectangular most 0ᶠ 0ᶠ longest origin_sized origin_sized (pos 1) (pos 0) (pos 0) (pos 0)
+    (omega (arith, most_sized.size)) (omega arith) (omega arith) (omega arith) (λ e f. differ e)
   where
     differ : pos 1 ≡ pos 0 → ⊥
     differ e = let z : ◌≡◌ {A = ℕ} 0 1 = cc in omega arith
@@ -168,4 +175,6 @@ corner = neg (literal 0x4090_0000_0000_0000)
 
 exact_sum : Sum (finest +ᶠ corner) (val finest ⊕ val corner) 1058 67108865
 unfolding of_bits neg fits mag U
-exact_sum = add_exact {a = 1} {b = 67108864} (record { num = record { fit = tt; fine = tt }; is = refl }) (record { num = record { fit = tt; fine = tt }; is = refl }) (lit< tt) (lit≤ tt)
+exact_sum =
+    add_exact {a = 1} {b = 67108864} (record { num = record { fit = tt; fine = tt }; is = refl })
+    (record { num = record { fit = tt; fine = tt }; is = refl }) (lit< tt) (lit≤ tt)

@@ -1,4 +1,5 @@
--- The numbers of a job: a coordinate counted in 1 / 1,024 or 1 / 65,536 is 1,024 at most; the spacing 2 * r * (1 + gap) is from 2 ^ -20 to 36,864, as `Spacing`, `Lattice` and `Cells` ask, and the inset r * (1 + gap) is 17 times a bound of r.
+-- The numbers of a job: a coordinate counted in 1 / 1,024 or 1 / 65,536 is 1,024 at most; the spacing 2 * r * (1 + gap) is
+-- from 2 ^ -20 to 36,864, as `Spacing`, `Lattice` and `Cells` ask, and the inset r * (1 + gap) is 17 times a bound of r.
 -- Rests on `Bounds`. A radius above 0 is 2 ^ -21 to 1,084, and a gap 0 to 16.
 use Rattle.std.specs.Prelude.{◌≡◌, refl, false, ℕ, ◌*◌, ◌≤◌, ◌<◌, ℤ, nat_abs, Float}
 use Rattle.std.proofs.Common.{le_trans, mul-le-mul_right, mul-le-mul_left, arith, lit<, lit≤}
@@ -17,7 +18,9 @@ use Rattle.rounding.specs.Row.{two_sized, two_mag, two_plus}
 use Rattle.rounding.specs.Lengths.{Factor}
 
 -- a number counted in 1 / d: d is 1,024 in version 1 and 65,536 in version 2
-pub coordinate_sized : (d : ℕ) (unit : Float) → Sized unit d → 0 < d → d * U ≤ mag unit → d ≤ 65536 → (z : ℤ) → nat_abs z ≤ 1024 * d → Sized (of_int binary64 z /ᶠ unit) 1024
+pub coordinate_sized :
+    (d : ℕ) (unit : Float) → Sized unit d → 0 < d → d * U ≤ mag unit → d ≤ 65536 → (z : ℤ) → nat_abs z ≤ 1024 * d
+    → Sized (of_int binary64 z /ᶠ unit) 1024
 coordinate_sized d unit u d0 l h z k = div_sized_by 1024 d (int_sized z (1024 * d) k (omega (arith, h))) u d0 l (lit< tt)
 
 one_sized : Sized 1ᶠ 1

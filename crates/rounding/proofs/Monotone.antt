@@ -51,7 +51,8 @@ module _ (x y x' y' : Float) (p : Num x) (q : Num y) (p' : Num x') (q' : Num y')
       let u0 : 0 < U * U = mul-pos U_pos U_pos in
       let is = mul_is x' y' p' q' in
       rw (mul_is x y p q, is)
-      (round_mag (unlike (sgn x) (sgn y)) (unlike (sgn x') (sgn y')) (mag x * mag y) (U * U) (mag x' * mag y') (U * U) u0 u0 (mul-le-mul_right (U * U) h) (subst (λ (z : Float). T (finite z)) is f))
+      (round_mag (unlike (sgn x) (sgn y)) (unlike (sgn x') (sgn y')) (mag x * mag y) (U * U)
+      (mag x' * mag y') (U * U) u0 u0 (mul-le-mul_right (U * U) h) (subst (λ (z : Float). T (finite z)) is f))
 
   pub div_mono : 0 < mag y → 0 < mag y' → T (finite (x' /ᶠ y')) → mag x * mag y' ≤ mag x' * mag y → mag (x /ᶠ y) ≤ mag (x' /ᶠ y')
   div_mono y0 y0' f h =

@@ -1,4 +1,5 @@
--- How far `round` goes: in units of the format's smallest value it takes n / den to a whole number of units, off by a 2 ^ -prec-th of either and, where digits below a unit are lost, half a unit.
+-- How far `round` goes: in units of the format's smallest value it takes n / den to a whole number of units, off by a 2 ^
+-- -prec-th of either and, where digits below a unit are lost, half a unit.
 -- Rests on the kit's account of `round` (`kept`, `drop`, `closest`).
 use Rattle.std.proofs.Common.{mul-le-mul_right, arith}
 use Prim.Native.Nat.{ℕ, ◌+◌, ◌*◌, ◌≤◌}

@@ -1,4 +1,5 @@
--- The nearest root in units, g, of a whole number n of units squared: it is near √n, and a number of 53 digits stays on its side. A root is compared by squares.
+-- The nearest root in units, g, of a whole number n of units squared: it is near √n, and a number of 53 digits stays on its
+-- side. A root is compared by squares.
 -- Rests on the root being nearest, and its digits all there.
 use Rattle.std.proofs.Common.{mul-le-mul_right, arith}
 use Prim.Native.Nat.{ℕ, ◌+◌, ◌*◌, ◌≤◌}

@@ -1,4 +1,5 @@
--- The nearest root in units, g, of a whole number n of units squared: it is near √n, and a number of 53 digits stays on its side. A root is compared by squares.
+-- The nearest root in units, g, of a whole number n of units squared: it is near √n, and a number of 53 digits stays on its
+-- side. A root is compared by squares.
 -- Rests on the root being nearest, and its digits all there.
 use Rattle.std.specs.Prelude.{◌≡◌, refl}
 use Rattle.std.proofs.Common.{le_trans, lt_of_lt_of_le, lt_of_le_of_lt, lt_of_not-le, not-le_of_lt, le_of_suc-le-suc, mul-le-mul_right, arith, pow_mono}

@@ -1,4 +1,5 @@
--- One rounding: what `round` makes of num / den with a sign, by exact values. It is near, it keeps the order, and a number of 53 digits stays on its side; so such a number does not change.
+-- One rounding: what `round` makes of num / den with a sign, by exact values. It is near, it keeps the order, and a number
+-- of 53 digits stays on its side; so such a number does not change.
 -- Rests on `Nearest` (how far), the kit's `round_mono` (the order) and `round_exact` (no change).
 use Rattle.std.specs.Prelude.{◌≡◌, refl, Bool, false, ℕ, ◌*◌, ◌^◌, ◌≤◌, ◌<◌, T, Float}
 use Rattle.std.proofs.Common.{sym, ap, subst, inl, inr, le_trans, le_of_eq, le_of_lt, lt_of_not-le, mul-le-mul_right, pow_pos}
@@ -18,7 +19,8 @@ kept_exact : (s : Bool) (g : ℕ) → Digits g → g < overflow binary64 → Mad
 unfolding U
 kept_exact s g d h =
     of_value s g (2 ^ low binary64) g
-    (round_exact binary64 s g (2 ^ low binary64) d.q d.j (pow_pos (low binary64)) d.small (subst (λ (z : ℕ). z < overflow binary64) d.is h) (ap (λ (z : ℕ). z * 2 ^ low binary64) d.is))
+    (round_exact binary64 s g (2 ^ low binary64) d.q d.j (pow_pos (low binary64)) d.small
+    (subst (λ (z : ℕ). z < overflow binary64) d.is h) (ap (λ (z : ℕ). z * 2 ^ low binary64) d.is))
 
 from_overflow : round binary64 false (overflow binary64) (2 ^ low binary64) ≡ inf false
 unfolding round
@@ -29,7 +31,9 @@ unfolding U
 under_overflow g f =
     lt_of_not-le (λ (h : overflow binary64 ≤ g).
     not_above (round binary64 false g U) f
-    (subst (λ (z : Float). T (le z (round binary64 false g U))) from_overflow (round_mono binary64 (overflow binary64) (2 ^ low binary64) g (2 ^ low binary64) (pow_pos (low binary64)) (pow_pos (low binary64)) (mul-le-mul_right (2 ^ low binary64) h))))
+    (subst (λ (z : Float). T (le z (round binary64 false g U))) from_overflow
+    (round_mono binary64 (overflow binary64) (2 ^ low binary64) g (2 ^ low binary64)
+    (pow_pos (low binary64)) (pow_pos (low binary64)) (mul-le-mul_right (2 ^ low binary64) h))))
 
 pub rounded : (s : Bool) (num den : ℕ) → 0 < den → T (finite (round binary64 s num den)) → Rounded (round binary64 s num den) s (num * U) den
 unfolding U

@@ -1,7 +1,9 @@
--- How far `round` goes: in units of the format's smallest value it takes n / den to a whole number of units, off by a 2 ^ -prec-th of either and, where digits below a unit are lost, half a unit.
+-- How far `round` goes: in units of the format's smallest value it takes n / den to a whole number of units, off by a 2 ^
+-- -prec-th of either and, where digits below a unit are lost, half a unit.
 -- Rests on the kit's account of `round` (`kept`, `drop`, `closest`).
 use Rattle.std.specs.Prelude.{◌≡◌, refl}
-use Rattle.std.proofs.Common.{sym, ap, ◌∙◌, subst, le_trans, le_of_eq, mul_assoc, mul_comm, mul-pos, le_of_mul-le-mul_right, le-div_iff_mul-le, div-add-mod', mod-lt, arith, pow-add, pow_pos}
+use Rattle.std.proofs.Common.{sym, ap, ◌∙◌, subst, le_trans, le_of_eq, mul_assoc, mul_comm, mul-pos}
+use Rattle.std.proofs.Common.{le_of_mul-le-mul_right, le-div_iff_mul-le, div-add-mod', mod-lt, arith, pow-add, pow_pos}
 use Prim.Native.Nat.{ℕ, zero, suc, ◌+◌, ◌-◌, ◌*◌, ◌/◌, ◌%◌, ◌^◌, ◌≤◌, ◌<◌, compare, Ordering}
 use Rattle.std.specs.Float.Ieee.{size, nearest}
 use Rattle.std.specs.Float.Ieee.Digits.{size_reaches}
@@ -65,7 +67,8 @@ rounds p n den D = go (drop (suc p) n den) (dropped p n den D)
     go : (k : ℕ) → Dropped p n den k → Near (2 ^ p * 2) 1 (den * 2 ^ p) (closest n (den * 2 ^ k) * 2 ^ k * den) n
     go k none = no_drop (2 ^ p) (closest n (den * 1)) n den (half n (den * 1) (mul-pos D (pow_pos 0)))
     go k (some j h) =
-        let w = full (2 ^ p) (closest n (den * 2 ^ j)) n den (2 ^ j) (half n (den * 2 ^ j) (mul-pos D (pow_pos j))) h (reaches (2 ^ p) n den (2 ^ j) D (pow_pos j) h) in
+        let w =
+        full (2 ^ p) (closest n (den * 2 ^ j)) n den (2 ^ j) (half n (den * 2 ^ j) (mul-pos D (pow_pos j))) h (reaches (2 ^ p) n den (2 ^ j) D (pow_pos j) h) in
         record { above = omega (arith, w.above); below = omega (arith, w.below) }
 
 -- where the fraction is a whole number of units, w, there is no error but the one in proportion
@@ -78,7 +81,8 @@ rounds_whole p w den D = go (drop (suc p) (w * den) den) (dropped p (w * den) de
         subst (λ (q : ℕ). Near (2 ^ p * 2) 1 0 (q * 1) w) (sym e) (omega arith)
     go k (some j h) =
         let q = closest (w * den) (den * 2 ^ j) in
-        let x = full (2 ^ p) q (w * den) den (2 ^ j) (half (w * den) (den * 2 ^ j) (mul-pos D (pow_pos j))) h (reaches (2 ^ p) (w * den) den (2 ^ j) D (pow_pos j) h) in
+        let x =
+        full (2 ^ p) q (w * den) den (2 ^ j) (half (w * den) (den * 2 ^ j) (mul-pos D (pow_pos j))) h (reaches (2 ^ p) (w * den) den (2 ^ j) D (pow_pos j) h) in
         record {
           above = le_of_mul-le-mul_right (omega (arith, x.above)) D;
           below = le_of_mul-le-mul_right (omega (arith, x.below)) D;

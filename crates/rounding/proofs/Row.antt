@@ -1,4 +1,5 @@
--- The row height of a hexagonal lattice, s * sqrt(3) / 2 as the source rounds it: twice it is √3 times the spacing but for 2 ^ -31, and it is no more than the spacing.
+-- The row height of a hexagonal lattice, s * sqrt(3) / 2 as the source rounds it: twice it is √3 times the spacing but for 2
+-- ^ -31, and it is no more than the spacing.
 -- Rests on `Errors`; the root of 3 is computed.
 use Rattle.std.specs.Prelude.{◌≡◌, refl, false, ℕ, ◌+◌, ◌*◌, ◌≤◌, ◌<◌, T, Float}
 use Rattle.std.proofs.Common.{sym, ap, ap₂, ◌∙◌, subst, le_trans, le_of_eq, mul-le-mul_right, mul-le-mul_left, mul-pos, arith, lit<, lit≤}
@@ -30,15 +31,29 @@ first h u S K T k u0 e p = le_of_mul-le-mul_right {k = u} (omega (arith, mul-le-
 second : (h u T R : ℕ) → 0 < u → Under (h * 2) 1 (2 * u * h) (T * u) (R * (2 * u)) → T * (h * 2) ≤ 2 * R * (h * 2 + 1) + 2 * h
 second h u T R u0 p = le_of_mul-le-mul_right {k = u} (omega (arith, p)) u0
 
-both : (h S k T R g : ℕ) → 0 < h → S * k * (h * 2) ≤ h * (T * (h * 2 + 1) + h) → T * (h * 2) ≤ 2 * R * (h * 2 + 1) + 2 * h → 6 * R + 4 * h ≤ g * (h * 2) → S * k ≤ h * (2 * R + g)
+both :
+    (h S k T R g : ℕ) → 0 < h → S * k * (h * 2) ≤ h * (T * (h * 2 + 1) + h) → T * (h * 2) ≤ 2 * R * (h * 2 + 1) + 2 * h
+    → 6 * R + 4 * h ≤ g * (h * 2) → S * k ≤ h * (2 * R + g)
 both h S k T R g h0 p q r =
     le_of_mul-le-mul_right {k = h * h * 4}
-    (omega (arith, mul-le-mul_right (h * 2) p, mul-le-mul_left (h * (h * 2 + 1)) q, mul-le-mul_right (h * h * 2) r, mul-le-mul_left (h * R) h0, mul-le-mul_left (h * h) h0))
+    (omega (
+      arith,
+      mul-le-mul_right (h * 2) p,
+      mul-le-mul_left (h * (h * 2 + 1)) q,
+      mul-le-mul_right (h * h * 2) r,
+      mul-le-mul_left (h * R) h0,
+      mul-le-mul_left (h * h) h0,
+    ))
     (mul-pos (mul-pos h0 h0) (lit< {n = 4} tt))
 
 -- ---- the floats
 three : Sized (sqrt 3ᶠ) 2
-three = record { num = subst Num (sym root_three) (unfold of_bits fits in record { fit = tt; fine = tt }); size = le_of_mul-le-mul_right {k = H} (le_trans (le_of_eq three_mag) (omega arith)) (lit< tt) }
+three =
+    record {
+      num = subst Num (sym root_three) (unfold of_bits fits in record { fit = tt; fine = tt });
+      size = le_of_mul-le-mul_right {k = H}
+          (le_trans (le_of_eq three_mag) (omega arith)) (lit< tt);
+    }
 
 three_plus : sgn (sqrt 3ᶠ) ≡ false
 unfolding root_of of_bits sgn

@@ -56,13 +56,18 @@ join acc w k A h t p f =
       nonneg = rounding_nonneg r (omega (arith, e));
       near = record {
         above = chain E (lit< tt) 1 k 0 0 (mag (acc +ᶠ w)) (mag acc + mag w) (A + mag w) (lit≤ tt) (omega (arith, h)) n.above (omega (arith, t.near.above));
-        below = wider E (lit< tt) (k + 1 + 1) (1 + k + 1) 0 0 (A + mag w) (mag (acc +ᶠ w)) (omega arith) (lit≤ tt) (chain E (lit< tt) k 1 0 0 (A + mag w) (mag acc + mag w) (mag (acc +ᶠ w)) h (omega (arith, h)) (omega (arith, t.near.below)) n.below);
+        below =
+            wider E (lit< tt) (k + 1 + 1) (1 + k + 1) 0 0 (A + mag w) (mag (acc +ᶠ w)) (omega arith) (lit≤ tt)
+            (chain E (lit< tt) k 1 0 0 (A + mag w) (mag acc + mag w) (mag (acc +ᶠ w)) h (omega (arith, h)) (omega (arith, t.near.below)) n.below);
       };
     }
 
-fold_total : (acc : Float) (ws : List Float) (k A : ℕ) → k + 2 * length ws ≤ E → Total acc k A → Weights ws → T (finite (foldl ◌+ᶠ◌ acc ws)) → Total (foldl ◌+ᶠ◌ acc ws) (k + 2 * length ws) (A + sum ws)
+fold_total :
+    (acc : Float) (ws : List Float) (k A : ℕ) → k + 2 * length ws ≤ E → Total acc k A → Weights ws → T (finite (foldl ◌+ᶠ◌ acc ws))
+    → Total (foldl ◌+ᶠ◌ acc ws) (k + 2 * length ws) (A + sum ws)
 unfolding sum
-fold_total acc [] k A h t none f = record { num = t.num; nonneg = t.nonneg; near = record { above = omega (arith, t.near.above); below = omega (arith, t.near.below) } }
+fold_total acc [] k A h t none f =
+    record { num = t.num; nonneg = t.nonneg; near = record { above = omega (arith, t.near.above); below = omega (arith, t.near.below) } }
 fold_total acc (w ∷ ws) k A h t (more p ps) f =
     let z = foldl ◌+ᶠ◌ (acc +ᶠ w) ws in
     let r = fold_total (acc +ᶠ w) ws (1 + k + 1) (A + mag w) (omega (arith, h)) (join acc w k A (omega (arith, h)) t p (fold_parts (acc +ᶠ w) ws f)) ps f in
@@ -86,12 +91,15 @@ summed ws h ps f =
       };
     }
 
-fold_sized : (acc : Float) (a k : ℕ) (ws : List Float) → Sized acc a → All k ws → a + length ws * k < E → Sized (foldl ◌+ᶠ◌ acc ws) (a + length ws * k)
+fold_sized :
+    (acc : Float) (a k : ℕ) (ws : List Float) → Sized acc a → All k ws → a + length ws * k < E → Sized (foldl ◌+ᶠ◌ acc ws) (a + length ws * k)
 fold_sized acc a k [] s none h = widen (omega arith) s
-fold_sized acc a k (w ∷ ws) s (more p ps) h = widen (omega arith) (fold_sized (acc +ᶠ w) (a + k) k ws (add_sized s p (omega (arith, h))) ps (omega (arith, h)))
+fold_sized acc a k (w ∷ ws) s (more p ps) h =
+    widen (omega arith) (fold_sized (acc +ᶠ w) (a + k) k ws (add_sized s p (omega (arith, h))) ps (omega (arith, h)))
 
 pub total_sized : (k : ℕ) (ws : List Float) → All k ws → length ws * k < E → Sized (foldl ◌+ᶠ◌ -0ᶠ ws) (length ws * k)
-total_sized k ws ps h = widen (omega arith) (fold_sized -0ᶠ 0 k ws (record { num = minus_zero.num; size = unfold of_bits neg mag U in lit≤ tt }) ps (omega (arith, h)))
+total_sized k ws ps h =
+    widen (omega arith) (fold_sized -0ᶠ 0 k ws (record { num = minus_zero.num; size = unfold of_bits neg mag U in lit≤ tt }) ps (omega (arith, h)))
 
 -- d is 5 at most
 ratio_le : (h d T w u : ℕ) → 0 < h → 0 < T → 0 < u → w ≤ T * 2 → Under (h * 2) 1 (T * h) (d * T) (w * u) → d ≤ 5 * u
@@ -100,7 +108,9 @@ ratio_le h d T w u h0 T0 u0 l p =
     (omega (arith, p, mul-le-mul_right (u * (h * 2 + 1)) l, mul-le-mul_left (T * h) u0, mul-le-mul_left (T * u) h0))
     (mul-pos T0 (mul-pos h0 (lit< {n = 2} tt)))
 
-pub share_law : (n : ℕ) (total w : Float) (W : ℕ) → n ≤ 2000 → Weight w → mag w ≤ W → Summed total W → 0 < mag total → Share (share_of n total w) n (mag w) W
+pub share_law :
+    (n : ℕ) (total w : Float) (W : ℕ) → n ≤ 2000 → Weight w → mag w ≤ W → Summed total W → 0 < mag total
+    → Share (share_of n total w) n (mag w) W
 share_law n total w W n0 p l t T0 =
     let d = w /ᶠ total in
     let W2 : W ≤ mag total * 2 + 0 = twice E (lit< tt) 32 0 W (mag total) (lit≤ tt) t.near.below in

@@ -1,4 +1,5 @@
--- SPACING FROM SQUARES: where the computed squared distance of two points is at least the computed spacing squared, their exact distance is at least the spacing less 2 ^ -30.
+-- SPACING FROM SQUARES: where the computed squared distance of two points is at least the computed spacing squared, their
+-- exact distance is at least the spacing less 2 ^ -30.
 -- Rests on `Errors` and `Relative`. Coordinates and spacing are 65,536 at most: a job's are 1,024 and 34,816, and no candidate passes 36,000.
 use Rattle.std.specs.Prelude.{◌≡◌, ◌⊎◌, Bool, true, false, ℕ, ◌+◌, ◌-◌, ◌*◌, ◌≤◌, ◌<◌, T, Float}
 use Rattle.std.proofs.Common.{sym, subst, inl, inr, le_of_lt, mul-le-mul_right, sub-eq-zero_of_le, arith, lit<, lit≤}
@@ -13,21 +14,27 @@ use Rattle.rounding.proofs.Errors.{add_of_finite, sub_of_finite, mul_of_finite}
 use Rattle.rounding.specs.Bounds.{Sized}
 use Rattle.rounding.proofs.Bounds.{add_sized, sub_sized, mul_sized}
 use Rattle.rounding.specs.Signs.{square_plus}
-use Rattle.rounding.specs.Distance.{fine, tiny, tiny_is, tiny_big, gap, distance², Spaced}
+use Rattle.rounding.specs.Distance.{tiny, tiny_is, tiny_big, gap, distance², Spaced}
 use Rattle.rounding.specs.Spacing.{computed}
 use Rattle.rounding.proofs.Spacing.{last}
 
--- ---- numbers only. X and Y are exact differences, a and b computed ones; P and Q their computed squares, R the sum of these, Z the computed square of S. h stands for H
+-- ---- numbers only. X and Y are exact differences, a and b computed ones; P and Q their computed squares, R the sum of
+-- these, Z the computed square of S. h stands for H
 module _ (X Y a b P Q R S Z u : ℕ) where
-  chained : Under E 1 0 a X → Under E 1 0 b Y → Under E 1 (u * H) (P * u) (a * a) → Under E 1 (u * H) (Q * u) (b * b) → Under E 1 0 R (P + Q) → Z ≤ R → Under E 1 (u * H) (S * S) (Z * u)
+  chained :
+      Under E 1 0 a X → Under E 1 0 b Y → Under E 1 (u * H) (P * u) (a * a) → Under E 1 (u * H) (Q * u) (b * b) → Under E 1 0 R (P + Q) → Z ≤ R
+      → Under E 1 (u * H) (S * S) (Z * u)
       → Under E 9 (9 * (u * H)) (S * S) (X * X + Y * Y)
   chained p q r s t z w =
       let e0 : 0 < E = lit< tt in
-      let f : Under E 5 (u * H + 2 * 0) (P * u) (X * X) = chain E e0 1 3 (u * H) 0 (P * u) (a * a) (X * X) (lit≤ tt) (lit≤ tt) r (square E e0 1 a X (lit≤ tt) p) in
-      let g : Under E 5 (u * H + 2 * 0) (Q * u) (Y * Y) = chain E e0 1 3 (u * H) 0 (Q * u) (b * b) (Y * Y) (lit≤ tt) (lit≤ tt) s (square E e0 1 b Y (lit≤ tt) q) in
+      let f : Under E 5 (u * H + 2 * 0) (P * u) (X * X) =
+      chain E e0 1 3 (u * H) 0 (P * u) (a * a) (X * X) (lit≤ tt) (lit≤ tt) r (square E e0 1 a X (lit≤ tt) p) in
+      let g : Under E 5 (u * H + 2 * 0) (Q * u) (Y * Y) =
+      chain E e0 1 3 (u * H) 0 (Q * u) (b * b) (Y * Y) (lit≤ tt) (lit≤ tt) s (square E e0 1 b Y (lit≤ tt) q) in
       let k : Under E 5 (2 * (u * H)) (P * u + Q * u) (X * X + Y * Y) = omega (arith, f, g) in
       let j : Under E 1 0 (Z * u) (P * u + Q * u) = omega (arith, mul-le-mul_right u t, mul-le-mul_right (u * E) z) in
-      let i : Under E 7 (0 + 2 * (2 * (u * H))) (Z * u) (X * X + Y * Y) = chain E e0 1 5 0 (2 * (u * H)) (Z * u) (P * u + Q * u) (X * X + Y * Y) (lit≤ tt) (lit≤ tt) j k in
+      let i : Under E 7 (0 + 2 * (2 * (u * H))) (Z * u) (X * X + Y * Y) =
+      chain E e0 1 5 0 (2 * (u * H)) (Z * u) (P * u + Q * u) (X * X + Y * Y) (lit≤ tt) (lit≤ tt) j k in
       omega (arith, chain E e0 1 7 (u * H) (0 + 2 * (2 * (u * H))) (S * S) (Z * u) (X * X + Y * Y) (lit≤ tt) (lit≤ tt) w i)
 
 -- ---- the floats
@@ -54,7 +61,9 @@ differ x x' k s t h =
     record { sized = d; near = (sub_of_finite x x' s.num t.num d.num.fine).near }
 
 -- two numbers with no minus sign, added
-added : (a b : Float) (k l : ℕ) → Sized a k → Sized b l → sgn a ≡ false → sgn b ≡ false → k + l < E → Num (a +ᶠ b) × Near E 1 0 (mag (a +ᶠ b)) (mag a + mag b)
+added :
+    (a b : Float) (k l : ℕ) → Sized a k → Sized b l → sgn a ≡ false → sgn b ≡ false → k + l < E
+    → Num (a +ᶠ b) × Near E 1 0 (mag (a +ᶠ b)) (mag a + mag b)
 added a b k l s t p q h =
     let z = add_sized s t h in
     let r : Rounding (a +ᶠ b) (signed false (mag a) ⊕ signed false (mag b)) = rw (p, q) at (add_of_finite a b s.num t.num z.num.fine) in
@@ -65,7 +74,9 @@ plus_le s true m n e h = omega (arith, rw e at h)
 plus_le s false m n e h = omega (arith, rw e at h)
 
 -- THE SPACING
-pub spacing : (s x y x' y' : Float) → Sized s 65536 → Sized x 65536 → Sized y 65536 → Sized x' 65536 → Sized y' 65536 → T (computed x y x' y' ≥ᶠ s *ᶠ s) → Spaced s x y x' y'
+pub spacing :
+    (s x y x' y' : Float) → Sized s 65536 → Sized x 65536 → Sized y 65536 → Sized x' 65536 → Sized y' 65536 → T (computed x y x' y' ≥ᶠ s *ᶠ s)
+    → Spaced s x y x' y'
 unfolding distance²
 spacing s x y x' y' S X Y X' Y' t =
     let dx = differ x x' 65536 X X' (lit< tt) in
@@ -74,8 +85,12 @@ spacing s x y x' y' S X Y X' Y' t =
     let Q = squared (y -ᶠ y') 131072 dy.sized (lit< tt) in
     let Z = squared s 65536 S (lit< tt) in
     let R = added _ _ 17179869184 17179869184 P.sized Q.sized P.plus Q.plus (lit< tt) in
-    let le' = plus_le (sgn (s *ᶠ s)) (sgn (computed x y x' y')) (mag (s *ᶠ s)) (mag (computed x y x' y')) Z.plus (le→≼ (s *ᶠ s) (computed x y x' y') Z.sized.num R.0 t) in
-    let c = chained (gap x x') (gap y y') (mag (x -ᶠ x')) (mag (y -ᶠ y')) (mag ((x -ᶠ x') *ᶠ (x -ᶠ x'))) (mag ((y -ᶠ y') *ᶠ (y -ᶠ y'))) (mag (computed x y x' y')) (mag s) (mag (s *ᶠ s)) U
+    let le' =
+    plus_le (sgn (s *ᶠ s)) (sgn (computed x y x' y')) (mag (s *ᶠ s))
+    (mag (computed x y x' y')) Z.plus (le→≼ (s *ᶠ s) (computed x y x' y') Z.sized.num R.0 t) in
+    let c =
+    chained (gap x x') (gap y y') (mag (x -ᶠ x')) (mag (y -ᶠ y')) (mag ((x -ᶠ x') *ᶠ (x -ᶠ x')))
+    (mag ((y -ᶠ y') *ᶠ (y -ᶠ y'))) (mag (computed x y x' y')) (mag s) (mag (s *ᶠ s)) U
     dx.near.above dy.near.above P.near.above Q.near.above R.1.above le' Z.near.below in
     record { far = by_cases (mag s) (gap x x' * gap x x' + gap y y' * gap y y') (lt_or_le (mag s) tiny) S.size c }
   where
@@ -83,4 +98,5 @@ spacing s x y x' y' S X Y X' Y' t =
     by_cases m D (inl l) b c = rw (sub-eq-zero_of_le (le_of_lt l)) (omega arith)
     by_cases m D (inr l) b c =
         let is : m ≡ (m - tiny) + tiny = omega (arith, l) in
-        last (m - tiny) tiny D U (subst (λ (w : ℕ). Under E 9 (9 * (U * H)) (w * w) D) is c) (sym tiny_is) tiny_big (subst (λ (w : ℕ). w ≤ 65536 * U) is b)
+        last (m - tiny) tiny D U (subst (λ (w : ℕ). Under E 9 (9 * (U * H)) (w * w) D) is c)
+        (sym tiny_is) tiny_big (subst (λ (w : ℕ). w ≤ 65536 * U) is b)

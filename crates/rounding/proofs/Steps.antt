@@ -1,7 +1,8 @@
 -- Where a lattice puts a point: anchor + offset + i * s across and anchor + j * h along, each operation rounded, against the exact places.
 -- Rests on `Errors`; whole numbers of steps are exact floats.
 use Rattle.std.specs.Prelude.{◌≡◌, Bool, true, false, ℕ, ◌+◌, ◌*◌, ◌≤◌, ◌<◌, ℤ, nat_abs, Float}
-use Rattle.std.proofs.Common.{ap, ◌∙◌, le_trans, le_of_eq, lt_of_le_of_lt, le_of_mul-le-mul_right, mul-le-mul_right, mul-le-mul_left, mul_right_comm, arith, lit<}
+use Rattle.std.proofs.Common.{ap, ◌∙◌, le_trans, le_of_eq, lt_of_le_of_lt, le_of_mul-le-mul_right}
+use Rattle.std.proofs.Common.{mul-le-mul_right, mul-le-mul_left, mul_right_comm, arith, lit<}
 use Rattle.std.specs.Float.{binary64}
 use Rattle.std.specs.Float.Ieee.{of_int, unlike}
 use Rattle.float.specs.Ops.{◌+ᶠ◌, ◌*ᶠ◌, ◌/ᶠ◌, 2ᶠ}
@@ -36,7 +37,8 @@ times i h st r =
     let p = f *ᶠ h in
     let n = nat_abs i in
     let w = of_int_exact i (few i h st r) in
-    let t : mag f * mag h ≤ 131072 * U * U = le_trans (le_of_eq (ap (λ (z : ℕ). z * mag h) w.size ∙ mul_right_comm n U (mag h))) (mul-le-mul_right U r) in
+    let t : mag f * mag h ≤ 131072 * U * U =
+    le_trans (le_of_eq (ap (λ (z : ℕ). z * mag h) w.size ∙ mul_right_comm n U (mag h))) (mul-le-mul_right U r) in
     let m = mul_law f h w.num st.sized.num (omega (arith, t)) in
     let c = close_signed E H (mag p) (n * mag h) (sgn p) (whole_product f h p i w m) in
     let sign : sgn p ≡ sgn f = m.sign ∙ unlike_plus (sgn f) (sgn h) st.plus in
@@ -50,10 +52,12 @@ times i h st r =
 added : (x y : Float) (a b : ℕ) → Sized x a → Sized y b → a + b < E → Close E ((a + b) * U) (val (x +ᶠ y)) (val x ⊕ val y)
 added x y a b X Y h =
     let s = add_sized X Y h in
-    close_wider E (abs (val x ⊕ val y)) ((a + b) * U) (val (x +ᶠ y)) (val x ⊕ val y) (omega (arith, signed_le (sgn x) (mag x), signed_le (sgn y) (mag y), X.size, Y.size)) (add_of_finite x y X.num Y.num s.num.fine).close
+    close_wider E (abs (val x ⊕ val y)) ((a + b) * U) (val (x +ᶠ y)) (val x ⊕ val y)
+    (omega (arith, signed_le (sgn x) (mag x), signed_le (sgn y) (mag y), X.size, Y.size)) (add_of_finite x y X.num Y.num s.num.fine).close
 
 -- ---- along: two roundings
-pub along_close : (a h : Float) (j : ℤ) → Sized a 65536 → Step h → Reach j h → Close E (327680 * U + H) (val (along a j h)) (val a ⊕ int j ⊗ nat (mag h))
+pub along_close :
+    (a h : Float) (j : ℤ) → Sized a 65536 → Step h → Reach j h → Close E (327680 * U + H) (val (along a j h)) (val a ⊕ int j ⊗ nat (mag h))
 along_close a h j A st r =
     let t = times j h st r in
     let s = added a (of_int binary64 j *ᶠ h) 65536 131072 A t.sized (lit< tt) in
@@ -80,7 +84,8 @@ shift true s st =
     }
 
 pub across_close : (a s : Float) (odd : Bool) (i : ℤ) → Sized a 65536 → Step s → Reach i s
-    → Close E (1114112 * U + 4 * H) (val (across a (offset odd s) i s) ⊕ val (across a (offset odd s) i s)) (val a ⊕ val a ⊕ half_steps odd i ⊗ nat (mag s))
+    → Close E (1114112 * U + 4 * H) (val (across a (offset odd s) i s) ⊕ val (across a (offset odd s) i s))
+    (val a ⊕ val a ⊕ half_steps odd i ⊗ nat (mag s))
 across_close a s odd i A st r =
     let o = offset odd s in
     let p = of_int binary64 i *ᶠ s in

@@ -32,7 +32,9 @@ of_int_exact z h = whole z h (of_int_law z (omega arith))
     sign_of true false zero u u0 e = refl
     sign_of true false (suc n) u u0 e = absurd (omega (arith, e, u0))
 
-    at : (x : Float) (t : Bool) (n : ℕ) (v : Exact) → v ≈ signed t (n * U) → n < E → Rounding x v → (val x ≈ signed t (n * U)) × (mag x ≡ n * U) × (signed (sgn x) n ≈ signed t n)
+    at :
+        (x : Float) (t : Bool) (n : ℕ) (v : Exact) → v ≈ signed t (n * U) → n < E → Rounding x v
+        → (val x ≈ signed t (n * U)) × (mag x ≡ n * U) × (signed (sgn x) n ≈ signed t n)
     at x t n v e h r =
         let d = digits_whole n h in
         let k : val x ≈ signed t (n * U) = omega (arith, e, r.least t (n * U) d (omega (arith, e)), r.most t (n * U) d (omega (arith, e))) in
@@ -40,8 +42,12 @@ of_int_exact z h = whole z h (of_int_law z (omega arith))
         (k, m, sign_of (sgn x) t n U U_pos (rw m at k))
 
     whole : (z : ℤ) → nat_abs z < E → Rounding (of_int binary64 z) (ones z) → IsWhole (of_int binary64 z) z
-    whole (pos n) h r = let a = at (of_int binary64 (pos n)) false n (ones (pos n)) (omega arith) h r in record { num = r.num; is = omega (arith, a.0); size = a.1; sign = a.2 }
-    whole (negsuc n) h r = let a = at (of_int binary64 (negsuc n)) true (suc n) (ones (negsuc n)) (omega arith) h r in record { num = r.num; is = omega (arith, a.0); size = a.1; sign = a.2 }
+    whole (pos n) h r =
+        let a = at (of_int binary64 (pos n)) false n (ones (pos n)) (omega arith) h r in record { num = r.num; is = omega (arith, a.0); size = a.1; sign = a.2 }
+    whole (negsuc n) h r =
+        let a =
+        at (of_int binary64 (negsuc n)) true (suc n) (ones (negsuc n)) (omega arith) h r in
+        record { num = r.num; is = omega (arith, a.0); size = a.1; sign = a.2 }
 
 pub int_sized : (z : ℤ) (k : ℕ) → nat_abs z ≤ k → k < E → Sized (of_int binary64 z) k
 int_sized z k h l = let w = of_int_exact z (lt_of_le_of_lt h l) in record { num = w.num; size = le_trans (le_of_eq w.size) (mul-le-mul_right U h) }

@@ -1,4 +1,5 @@
--- Sizes: `Sized x k` is a finite number of size k at most, k a whole number. Sums, differences, products and quotients of such are such, so they are neither NaN nor infinite.
+-- Sizes: `Sized x k` is a finite number of size k at most, k a whole number. Sums, differences, products and quotients of
+-- such are such, so they are neither NaN nor infinite.
 -- Rests on `Errors`: a whole number below 2 ^ 53 is not passed by rounding.
 use Rattle.std.proofs.Common.{sym, subst, le_trans, mul-le-mul_right, arith}
 use Rattle.std.specs.Prelude.{Bool, true, false, ℕ, ◌*◌, ◌≤◌, T, Float}

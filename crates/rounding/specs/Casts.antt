@@ -1,6 +1,7 @@
 -- `floor() as i64`, `ceil() as i64` and `floor() as usize` of a finite number: the greatest whole number at most it, the least at least it.
 -- Rests on `Whole` (floor is exact) and float's laws of the casts.
-use Rattle.std.specs.Prelude.{◌≡◌, refl, Bool, true, false, cond, ℕ, zero, suc, ◌+◌, ◌-◌, ◌*◌, ◌/◌, ◌^◌, ◌≤◌, ◌<◌, min, ℤ, pos, neg_ℤ, Float}
+use Rattle.std.specs.Prelude.{◌≡◌, refl, Bool, true, false, cond, ℕ, zero, suc, ◌+◌, ◌-◌, ◌*◌}
+use Rattle.std.specs.Prelude.{◌/◌, ◌^◌, ◌≤◌, ◌<◌, min, ℤ, pos, neg_ℤ, Float}
 use Rattle.std.proofs.Common.{sym, ap, ◌∙◌, subst, le_of_lt, lt_of_le_of_lt, le_of_mul-le-mul_right, arith}
 use Rattle.std.proofs.Math.Nat.{eq_of_mul-eq-mul_right, min-eq_left, div-eq_of_lt-le}
 use Rattle.std.specs.Float.{nan, inf, fin}
@@ -77,7 +78,8 @@ floor_count x k p h =
     let y = floor x in
     let n = f.n in
     let v : val y ≡ signed (sgn y) (n * U) = ap (λ (z : ℕ). signed (sgn y) z) f.size in
-    count_le n k (mag x) U U_pos (near_size (sgn y) (sgn x) (mag x) (n * U) U (subst (λ (w : Exact). w ≼ val x) v f.low) (subst (λ (w : Exact). val x ≺ w ⊕ nat U) v f.high)) h
+    count_le n k (mag x) U U_pos
+    (near_size (sgn y) (sgn x) (mag x) (n * U) U (subst (λ (w : Exact). w ≼ val x) v f.low) (subst (λ (w : Exact). val x ≺ w ⊕ nat U) v f.high)) h
 
 module _ (x : Float) (k : ℕ) (p : Num x) (h : mag x ≤ k * U) (l : suc k < half) where
   pub floor_i64 : IsFloor (as_i64 (floor x)) x
@@ -109,7 +111,8 @@ ceil_i64 x k p h l =
     let g : mag (neg x) ≤ k * U = subst (λ (z : ℕ). z ≤ k * U) (sym (neg_mag x)) h in
     let f = floor_law (neg x) q in
     let y = floor (neg x) in
-    let e : ones (as_i64 (neg y)) ≈ val (neg y) = i64_whole (neg y) f.n (neg_num y f.num) (neg_mag y ∙ f.size) (lt_of_le_of_lt (floor_count (neg x) k q g) l) in
+    let e : ones (as_i64 (neg y)) ≈ val (neg y) =
+    i64_whole (neg y) f.n (neg_num y f.num) (neg_mag y ∙ f.size) (lt_of_le_of_lt (floor_count (neg x) k q g) l) in
     let e' : ones (as_i64 (neg y)) ≈ opp (val y) = rw (neg_val y f.num) at e in
     let lo : val y ≼ opp (val x) = rw (neg_val x p) at f.low in
     let hi : opp (val x) ≺ val y ⊕ nat U = rw (neg_val x p) at f.high in

@@ -1,7 +1,8 @@
 -- `lt`, `le` and `eq` of finite f64s are the order of their exact values, both ways; and what lies between two finite values is finite.
 -- Rests on `Value`: the two numbers over one denominator.
 use Rattle.std.specs.Prelude.{◌≡◌, Bool, true, false, not, ℕ, ◌+◌, ◌*◌, ◌≤◌, ◌<◌, T, eqb, Float}
-use Rattle.std.proofs.Common.{sym, ap, ◌∙◌, le_of_eq, le_of_mul-le-mul_right, mul-le-mul_right, mul-pos, not-le_of_lt, arith, ltb→lt, nltb→le, eqb→eq}
+use Rattle.std.proofs.Common.{sym, ap, ◌∙◌, le_of_eq, le_of_mul-le-mul_right, mul-le-mul_right}
+use Rattle.std.proofs.Common.{mul-pos, not-le_of_lt, arith, ltb→lt, nltb→le, eqb→eq}
 use Rattle.std.proofs.Math.Logic.{inl, inr}
 use Rattle.std.proofs.Math.Nat.{lt_of_not-le, eq_of_mul-eq-mul_right}
 use Rattle.std.proofs.Math.Dec.{T_not}

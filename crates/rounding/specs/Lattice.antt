@@ -1,5 +1,7 @@
--- LATTICE: two different cells of a hexagonal or a rectangular lattice, each coordinate rounded as the source rounds it, are at least the spacing less 2 ^ -30 apart.
--- Rests on `Steps` (where a point lies) and `Row` (the row height). The anchor is 65,536 at most, i steps 131,072, the spacing 2 ^ -20 to 65,536; so i may be 2 ^ 37, and a job's are 2 ^ 32 at most.
+-- LATTICE: two different cells of a hexagonal or a rectangular lattice, each coordinate rounded as the source rounds it, are
+-- at least the spacing less 2 ^ -30 apart.
+-- Rests on `Steps` (where a point lies) and `Row` (the row height). The anchor is 65,536 at most, i steps 131,072, the
+-- spacing 2 ^ -20 to 65,536; so i may be 2 ^ 37, and a job's are 2 ^ 32 at most.
 use Rattle.std.specs.Prelude.{Bool, ℕ, suc, ◌-◌, ◌%◌, ℤ, pos, negsuc, eqb}
 
 -- j.rem_euclid(d)

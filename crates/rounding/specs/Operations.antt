@@ -34,7 +34,9 @@ sum_is false false a b c A B c0 p q = at_units false (a + b) c (A + B) c0 (omega
 sum_is true true a b c A B c0 p q = at_units true (a + b) c (A + B) c0 (omega arith) _ (omega arith)
 sum_is false true a b c A B c0 p q = go (ltb a b) (ltb→lt a b) (nltb→le a b)
   where
-    go : (x : Bool) → (T x → a < b) → (T (not x) → b ≤ a) → IsRound (cond x (round binary64 true (b - a) c) (round binary64 false (a - b) c)) (signed false A ⊕ signed true B)
+    go :
+        (x : Bool) → (T x → a < b) → (T (not x) → b ≤ a)
+        → IsRound (cond x (round binary64 true (b - a) c) (round binary64 false (a - b) c)) (signed false A ⊕ signed true B)
     go true l g =
         let k : A ≤ B = units_le c c0 a b A B p q (le_of_lt (l tt)) in
         at_units true (b - a) c (B - A) c0 (difference a b c A B c0 p q) _ (omega arith)
@@ -43,7 +45,9 @@ sum_is false true a b c A B c0 p q = go (ltb a b) (ltb→lt a b) (nltb→le a b)
         at_units false (a - b) c (A - B) c0 (difference b a c B A c0 q p) _ (omega arith)
 sum_is true false a b c A B c0 p q = go (ltb a b) (ltb→lt a b) (nltb→le a b) (ltb b a) (nltb→le b a)
   where
-    go : (x : Bool) → (T x → a < b) → (T (not x) → b ≤ a) → (y : Bool) → (T (not y) → a ≤ b) → IsRound (cond x (round binary64 false (b - a) c) (round binary64 y (a - b) c)) (signed true A ⊕ signed false B)
+    go :
+        (x : Bool) → (T x → a < b) → (T (not x) → b ≤ a) → (y : Bool) → (T (not y) → a ≤ b)
+        → IsRound (cond x (round binary64 false (b - a) c) (round binary64 y (a - b) c)) (signed true A ⊕ signed false B)
     go true l g y g' =
         let k : A ≤ B = units_le c c0 a b A B p q (le_of_lt (l tt)) in
         at_units false (b - a) c (B - A) c0 (difference a b c A B c0 p q) _ (omega arith)
@@ -107,7 +111,8 @@ div_is (fin s m e) (fin t n d) p q y0 = go (eqb n 0) (eqb→eq n 0)
     n0 = first_pos n (up d * U) (omega (arith, mul-pos y0 (down_pos d), (own (fin t n d) q).1))
 
     go : (b : Bool) → (T b → n ≡ 0)
-        → cond b (cond (eqb m 0) nan (inf (unlike s t))) (round binary64 (unlike s t) (m * up e * down d) (n * up d * down e)) ≡ round binary64 (unlike s t) (mag (fin s m e)) (mag (fin t n d))
+        → cond b (cond (eqb m 0) nan (inf (unlike s t))) (round binary64 (unlike s t) (m * up e * down d) (n * up d * down e))
+        ≡ round binary64 (unlike s t) (mag (fin s m e)) (mag (fin t n d))
     go true z = absurd (omega (arith, n0, z tt))
     go false z =
         let x = fin s m e in

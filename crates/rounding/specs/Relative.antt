@@ -38,7 +38,8 @@ module _ (E : ℕ) (pos : 0 < E) where
 
 -- a common factor goes out
 pub cancel : (E k e a b u : ℕ) → 0 < u → Near E k (e * u) (a * u) (b * u) → Near E k e a b
-cancel E k e a b u u0 r = record { above = le_of_mul-le-mul_right {k = u} (omega (arith, r.above)) u0; below = le_of_mul-le-mul_right {k = u} (omega (arith, r.below)) u0 }
+cancel E k e a b u u0 r =
+    record { above = le_of_mul-le-mul_right {k = u} (omega (arith, r.above)) u0; below = le_of_mul-le-mul_right {k = u} (omega (arith, r.below)) u0 }
 
 -- an error in proportion to either is one in proportion to b
 pub within : (E e a b : ℕ) → Near E 1 e a b → (a * E ≤ b * E + b + e) × (b * E ≤ a * E + b + e)

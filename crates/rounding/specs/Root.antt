@@ -1,7 +1,10 @@
--- The nearest root in units, g, of a whole number n of units squared: it is near √n, and a number of 53 digits stays on its side. A root is compared by squares.
+-- The nearest root in units, g, of a whole number n of units squared: it is near √n, and a number of 53 digits stays on its
+-- side. A root is compared by squares.
 -- Rests on the root being nearest, and its digits all there.
 use Rattle.std.specs.Prelude.{◌≡◌, refl}
-use Rattle.std.proofs.Common.{sym, ap, ◌∙◌, subst, inl, inr, le_trans, le_of_eq, le_of_lt, lt_of_lt_of_le, lt_of_le_of_lt, lt_of_not-le, not-le_of_lt, le_of_suc-le-suc, div-mul-le_self, mul-pos, mul-le-mul, mul-le-mul_left, mul-le-mul_right, le_of_mul-le-mul_right, mul-lt-mul_of_pos_right, mul_assoc, le-div_iff_mul-le, arith, pow-add, pow_pos, pow_mono}
+use Rattle.std.proofs.Common.{sym, ap, ◌∙◌, subst, inl, inr, le_trans, le_of_eq, le_of_lt, lt_of_lt_of_le, lt_of_le_of_lt, lt_of_not-le}
+use Rattle.std.proofs.Common.{not-le_of_lt, le_of_suc-le-suc, div-mul-le_self, mul-pos, mul-le-mul, mul-le-mul_left, mul-le-mul_right}
+use Rattle.std.proofs.Common.{le_of_mul-le-mul_right, mul-lt-mul_of_pos_right, mul_assoc, le-div_iff_mul-le, arith, pow-add, pow_pos, pow_mono}
 use Prim.Native.Nat.{ℕ, zero, suc, ◌+◌, ◌-◌, ◌*◌, ◌/◌, ◌^◌, ◌≤◌, ◌<◌, zero-le, compare}
 use Rattle.std.proofs.Math.Nat.{lt-div-mul-add, pow-succ', mul-mul-mul_comm}
 use Rattle.std.specs.Float.Ieee.{size, nearest}
@@ -38,7 +41,9 @@ root n = rest n * 2 ^ steps n
 -- ---- r steps of K are nearest to √n
 module _ (n K r : ℕ) (c : Nearest n (K * K) r) where
   pub half_least : (a : ℕ) → a * a ≤ n → 2 * a ≤ 2 * (r * K) + K
-  half_least a h = le_trans (root_le {a = 2 * a} {b = (2 * r + 1) * K} (le_trans (omega (arith, h, c.high)) (le_of_eq (mul-mul-mul_comm (2 * r + 1) (2 * r + 1) K K)))) (omega arith)
+  half_least a h =
+      le_trans (root_le {a = 2 * a} {b = (2 * r + 1) * K} (le_trans (omega (arith, h, c.high)) (le_of_eq (mul-mul-mul_comm (2 * r + 1) (2 * r + 1) K K))))
+      (omega arith)
 
   pub half_most : (b : ℕ) → n ≤ b * b → 2 * (r * K) ≤ 2 * b + K
   half_most b h = go r c.low
@@ -48,7 +53,10 @@ module _ (n K r : ℕ) (c : Nearest n (K * K) r) where
       go (suc p) l =
           let e : 2 * suc p - 1 ≡ 2 * p + 1 = omega arith in
           let m : (2 * p + 1) * (2 * p + 1) * (K * K) ≤ 4 * n = rw e at l in
-          omega (arith, root_le {a = (2 * p + 1) * K} {b = 2 * b} (le_trans (le_of_eq (sym (mul-mul-mul_comm (2 * p + 1) (2 * p + 1) K K))) (omega (arith, h, m))))
+          omega (
+            arith,
+            root_le {a = (2 * p + 1) * K} {b = 2 * b} (le_trans (le_of_eq (sym (mul-mul-mul_comm (2 * p + 1) (2 * p + 1) K K))) (omega (arith, h, m))),
+          )
 
   -- a number of whole steps stays on its side
   step_least : (a : ℕ) → 0 < K → a * K * (a * K) ≤ n → a ≤ r
@@ -100,7 +108,8 @@ pub record NearRoot (e n g : ℕ) : Type 0 where
 -- ---- a number of 53 digits stays on its side
 short : (q j k : ℕ) → q < E → j < k → q * 2 ^ j < H * 2 ^ k
 short q j k h l =
-    lt_of_lt_of_le (mul-lt-mul_of_pos_right h (pow_pos j)) (le_trans (le_of_eq (mul_assoc H 2 (2 ^ j) ∙ ap (λ (z : ℕ). H * z) (sym (pow-succ' 2 j)))) (mul-le-mul_left H (pow_mono l)))
+    lt_of_lt_of_le (mul-lt-mul_of_pos_right h (pow_pos j))
+    (le_trans (le_of_eq (mul_assoc H 2 (2 ^ j) ∙ ap (λ (z : ℕ). H * z) (sym (pow-succ' 2 j)))) (mul-le-mul_left H (pow_mono l)))
 
 lead_full : (n : ℕ) → 0 < steps n → H * 2 ^ steps n ≤ part n
 lead_full n l = go (steps n) l (dropped n)
@@ -115,19 +124,23 @@ in_steps n q j l = ap (λ (z : ℕ). q * z) (pow_split j (steps n) l) ∙ sym (m
 module _ (n : ℕ) where
   pub root_least : (a : ℕ) → Digits a → a * a ≤ n → a ≤ root n
   root_least a d h = subst (λ (z : ℕ). z ≤ root n) (sym d.is) (elim (lt_or_le d.j (steps n)) [
-    | inl l ↦ le_trans (le_of_lt (short d.q d.j (steps n) d.small l)) (mul-le-mul_right (2 ^ steps n) (le_trans (full_lead n (steps n) (lead_full n (lt_of_le_of_lt zero-le l))) (above n)))
+    | inl l ↦ le_trans (le_of_lt (short d.q d.j (steps n) d.small l))
+        (mul-le-mul_right (2 ^ steps n) (le_trans (full_lead n (steps n) (lead_full n (lt_of_le_of_lt zero-le l))) (above n)))
     | inr l ↦
         let e = in_steps n d.q d.j l in
         let c = d.q * 2 ^ (d.j - steps n) in
-        le_trans (le_of_eq e) (mul-le-mul_right (2 ^ steps n) (step_least n (2 ^ steps n) (rest n) (own n) c (pow_pos (steps n)) (subst (λ (z : ℕ). z * z ≤ n) (d.is ∙ e) h)))
+        le_trans (le_of_eq e)
+        (mul-le-mul_right (2 ^ steps n) (step_least n (2 ^ steps n) (rest n) (own n) c (pow_pos (steps n)) (subst (λ (z : ℕ). z * z ≤ n) (d.is ∙ e) h)))
   ])
 
   pub root_most : (b : ℕ) → Digits b → n ≤ b * b → root n ≤ b
   root_most b d h = elim (lt_or_le d.j (steps n)) [
     | inl l ↦
-        absurd (not-le_of_lt (short d.q d.j (steps n) d.small l) (le_trans (lead_full n (lt_of_le_of_lt zero-le l)) (le_trans (part_most n b h) (le_of_eq d.is))))
+        absurd (not-le_of_lt (short d.q d.j (steps n) d.small l)
+        (le_trans (lead_full n (lt_of_le_of_lt zero-le l)) (le_trans (part_most n b h) (le_of_eq d.is))))
     | inr l ↦
         let e = in_steps n d.q d.j l in
         let c = d.q * 2 ^ (d.j - steps n) in
-        le_trans (mul-le-mul_right (2 ^ steps n) (step_most n (2 ^ steps n) (rest n) (own n) c (pow_pos (steps n)) (subst (λ (z : ℕ). n ≤ z * z) (d.is ∙ e) h))) (le_of_eq (sym (d.is ∙ e)))
+        le_trans (mul-le-mul_right (2 ^ steps n)
+        (step_most n (2 ^ steps n) (rest n) (own n) c (pow_pos (steps n)) (subst (λ (z : ℕ). n ≤ z * z) (d.is ∙ e) h))) (le_of_eq (sym (d.is ∙ e)))
   ]

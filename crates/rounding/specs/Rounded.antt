@@ -1,4 +1,5 @@
--- One rounding: what `round` makes of num / den with a sign, by exact values. It is near, it keeps the order, and a number of 53 digits stays on its side; so such a number does not change.
+-- One rounding: what `round` makes of num / den with a sign, by exact values. It is near, it keeps the order, and a number
+-- of 53 digits stays on its side; so such a number does not change.
 -- Rests on `Nearest` (how far), the kit's `round_mono` (the order) and `round_exact` (no change).
 use Rattle.std.specs.Prelude.{◌≡◌, refl, ◌⊎◌, Bool, true, false, cond, ℕ, suc, ◌+◌, ◌*◌, ◌^◌, ◌≤◌, ◌<◌, T, ltb, Float}
 use Rattle.std.proofs.Common.{sym, ◌∙◌, subst, inl, inr, le_trans, le_of_eq, arith, ltb→lt, lit<}
@@ -28,13 +29,19 @@ units_case : (s : Bool) (q k : ℕ) → (q * 2 ^ k < overflow binary64) ⊎ (uni
 unfolding units
 units_case s q k = go (ltb (q * 2 ^ k) (overflow binary64)) (ltb→lt (q * 2 ^ k) (overflow binary64))
   where
-    go : (b : Bool) → (T b → q * 2 ^ k < overflow binary64) → (q * 2 ^ k < overflow binary64) ⊎ (cond b (odd (suc (prec binary64)) s q k (low binary64)) (inf s) ≡ inf s)
+    go :
+        (b : Bool) → (T b → q * 2 ^ k < overflow binary64)
+        → (q * 2 ^ k < overflow binary64) ⊎ (cond b (odd (suc (prec binary64)) s q k (low binary64)) (inf s) ≡ inf s)
     go true h = inl (h tt)
     go false h = inr refl
 
 -- a result is finite below `overflow` units, and else an infinity
 grid_case : (s : Bool) (num den : ℕ) → (grid binary64 num den < overflow binary64) ⊎ (round binary64 s num den ≡ inf s)
-grid_case s num den = elim (units_case s (kept 53 (num * 2 ^ low binary64) den) (drop 53 (num * 2 ^ low binary64) den)) [ inl h ↦ inl h | inr e ↦ inr (round_is binary64 s num den ∙ e) ]
+grid_case s num den =
+    elim (units_case s (kept 53 (num * 2 ^ low binary64) den) (drop 53 (num * 2 ^ low binary64) den)) [
+      | inl h ↦ inl h
+      | inr e ↦ inr (round_is binary64 s num den ∙ e)
+    ]
 
 pub under : (s : Bool) (num den : ℕ) → T (finite (round binary64 s num den)) → grid binary64 num den < overflow binary64
 under s num den h = elim (grid_case s num den) [ inl g ↦ g | inr e ↦ absurd (subst (λ (z : Float). T (finite z)) e h) ]
@@ -67,7 +74,9 @@ pub record Ordered (x y : Float) : Type 0 where
   pub fine : T (finite x)
   pub size : mag x ≤ mag y
 
-pub ordered : (s t : Bool) (a b c d : ℕ) → 0 < b → 0 < d → a * d ≤ c * b → T (finite (round binary64 t c d)) → Ordered (round binary64 s a b) (round binary64 t c d)
+pub ordered :
+    (s t : Bool) (a b c d : ℕ) → 0 < b → 0 < d → a * d ≤ c * b → T (finite (round binary64 t c d))
+    → Ordered (round binary64 s a b) (round binary64 t c d)
 ordered s t a b c d B D h f =
     let hi = made false c d (under t c d f) in
     let l = round_mono binary64 a b c d B D h in
@@ -79,16 +88,20 @@ ordered s t a b c d B D h f =
             fine = x.num.fine;
             size =
                 le_trans (le_of_eq (x.size ∙ sym lo.size))
-                (le_trans (plain_le (sgn (round binary64 false a b)) (sgn (round binary64 false c d)) (mag (round binary64 false a b)) (mag (round binary64 false c d)) lo.sign hi.sign (le→≼ (round binary64 false a b) (round binary64 false c d) lo.num hi.num l))
+                (le_trans (plain_le (sgn (round binary64 false a b)) (sgn (round binary64 false c d)) (mag (round binary64 false a b))
+                (mag (round binary64 false c d)) lo.sign hi.sign (le→≼ (round binary64 false a b) (round binary64 false c d) lo.num hi.num l))
                 (le_of_eq (hi.size ∙ sym (made t c d (under t c d f)).size)));
           }
       | inr e ↦ absurd (not_above (round binary64 false c d) hi.num.fine (subst (λ (z : Float). T (le z (round binary64 false c d))) e l))
     ]
 
-pub round_finite : (s t : Bool) (a b c d : ℕ) → 0 < b → 0 < d → a * d ≤ c * b → T (finite (round binary64 t c d)) → T (finite (round binary64 s a b))
+pub round_finite :
+    (s t : Bool) (a b c d : ℕ) → 0 < b → 0 < d → a * d ≤ c * b → T (finite (round binary64 t c d)) → T (finite (round binary64 s a b))
 round_finite s t a b c d B D h f = (ordered s t a b c d B D h f).fine
 
-pub round_mag : (s t : Bool) (a b c d : ℕ) → 0 < b → 0 < d → a * d ≤ c * b → T (finite (round binary64 t c d)) → mag (round binary64 s a b) ≤ mag (round binary64 t c d)
+pub round_mag :
+    (s t : Bool) (a b c d : ℕ) → 0 < b → 0 < d → a * d ≤ c * b → T (finite (round binary64 t c d))
+    → mag (round binary64 s a b) ≤ mag (round binary64 t c d)
 round_mag s t a b c d B D h f = (ordered s t a b c d B D h f).size
 
 -- up to 2 ^ 64 there is no overflow

@@ -1,4 +1,5 @@
--- The row height of a hexagonal lattice, s * sqrt(3) / 2 as the source rounds it: twice it is √3 times the spacing but for 2 ^ -31, and it is no more than the spacing.
+-- The row height of a hexagonal lattice, s * sqrt(3) / 2 as the source rounds it: twice it is √3 times the spacing but for 2
+-- ^ -31, and it is no more than the spacing.
 -- Rests on `Errors`; the root of 3 is computed.
 use Rattle.std.specs.Prelude.{◌≡◌, refl, false, ℕ, zero, suc, ◌+◌, ◌*◌, ◌≤◌, ◌<◌, Float}
 use Rattle.std.proofs.Common.{le_of_eq, arith}

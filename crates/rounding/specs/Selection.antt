@@ -48,7 +48,9 @@ module _ (a b : Float) (p : Num a) (q : Num b) where
   unfolding max
   max_case = go (a <ᶠ b) (is_nan a) (finite_not_nan a p.fine) (lt→≺ a b p q) (¬lt→≼ a b p q)
     where
-      go : (t n : Bool) → n ≡ false → (T t → val a ≺ val b) → (T (not t) → val b ≼ val a) → ((cond n b (cond t b a) ≡ b) × (val a ≺ val b)) ⊎ ((cond n b (cond t b a) ≡ a) × (val b ≼ val a))
+      go :
+          (t n : Bool) → n ≡ false → (T t → val a ≺ val b) → (T (not t) → val b ≼ val a)
+          → ((cond n b (cond t b a) ≡ b) × (val a ≺ val b)) ⊎ ((cond n b (cond t b a) ≡ a) × (val b ≼ val a))
       go true n e f g = inl (rw e refl, f tt)
       go false n e f g = inr (rw e refl, g tt)
 
@@ -57,7 +59,9 @@ module _ (a b : Float) (p : Num a) (q : Num b) where
   unfolding min
   min_case = go (b <ᶠ a) (is_nan a) (finite_not_nan a p.fine) (lt→≺ b a q p) (¬lt→≼ b a q p)
     where
-      go : (t n : Bool) → n ≡ false → (T t → val b ≺ val a) → (T (not t) → val a ≼ val b) → ((cond n b (cond t b a) ≡ b) × (val b ≺ val a)) ⊎ ((cond n b (cond t b a) ≡ a) × (val a ≼ val b))
+      go :
+          (t n : Bool) → n ≡ false → (T t → val b ≺ val a) → (T (not t) → val a ≼ val b)
+          → ((cond n b (cond t b a) ≡ b) × (val b ≺ val a)) ⊎ ((cond n b (cond t b a) ≡ a) × (val a ≼ val b))
       go true n e f g = inl (rw e refl, f tt)
       go false n e f g = inr (rw e refl, g tt)
 

@@ -1,6 +1,6 @@
 -- A share n * max(w / total, 0), each operation rounded and the total too, against the exact share n * w / sum: 2 ^ -25 away at most.
 -- Rests on `Errors` and `Relative`: a sum of up to 16 numbers is off by 32 / 2 ^ 53 at most, and n is 2,000 at most.
-use Rattle.std.specs.Prelude.{ℕ, ◌+◌, ◌*◌, ◌≤◌, ◌<◌, T, Float}
+use Rattle.std.specs.Prelude.{ℕ, ◌+◌, ◌*◌, ◌≤◌, ◌<◌, Float}
 use Rattle.std.proofs.Common.{le_of_mul-le-mul_right, mul-le-mul, mul-le-mul_right, mul-le-mul_left, arith}
 use mathlib.Core.List.{List, [], ◌∷◌}
 use Rattle.std.proofs.Math.Dec.{lit≤}
@@ -45,7 +45,8 @@ pub data All (k : ℕ) : List Float → Type 0 where
   more : {w : Float} {ws : List Float} → Sized w k → All k ws → All k (w ∷ ws)
 
 -- ---- numbers only: d is w / T rounded, z is N * d rounded, T is W rounded. h stands for H, h * 2 for E
-module _ (h z N d T w u W : ℕ) (h0 : 0 < h) (few : 96 ≤ h * 2) (q : Near (h * 2) 1 (T * h) (d * T) (w * u)) (p : Near (h * 2) 1 h z (N * d)) (t : Near (h * 2) 32 0 T W) where
+module _ (h z N d T w u W : ℕ) (h0 : 0 < h) (few : 96 ≤ h * 2) (q : Near (h * 2) 1 (T * h) (d * T) (w * u))
+    (p : Near (h * 2) 1 h z (N * d)) (t : Near (h * 2) 32 0 T W) where
   e0 : 0 < h * 2
   e0 = omega (arith, h0)
 
@@ -53,7 +54,8 @@ module _ (h z N d T w u W : ℕ) (h0 : 0 < h) (few : 96 ≤ h * 2) (q : Near (h 
   over =
       let a : Under (h * 2) 1 (h * T) (z * T) (N * d * T) = scale (h * 2) e0 1 h z (N * d) T p.above in
       let b : Under (h * 2) 1 (T * h * N) (N * d * T) (N * w * u) = omega (arith, mul-le-mul_left N q.above) in
-      let c : Under (h * 2) 3 (h * T + 2 * (T * h * N)) (z * T) (N * w * u) = chain (h * 2) e0 1 1 (h * T) (T * h * N) (z * T) (N * d * T) (N * w * u) (omega (arith, h0)) (omega (arith, h0)) a b in
+      let c : Under (h * 2) 3 (h * T + 2 * (T * h * N)) (z * T) (N * w * u) =
+      chain (h * 2) e0 1 1 (h * T) (T * h * N) (z * T) (N * d * T) (N * w * u) (omega (arith, h0)) (omega (arith, h0)) a b in
       let g : Under (h * 2) 32 0 (z * W) (z * T) = omega (arith, mul-le-mul_left z t.below) in
       omega (arith, chain (h * 2) e0 32 3 0 (h * T + 2 * (T * h * N)) (z * W) (z * T) (N * w * u) (omega (arith, few)) (omega (arith, few)) g c)
 
@@ -61,7 +63,8 @@ module _ (h z N d T w u W : ℕ) (h0 : 0 < h) (few : 96 ≤ h * 2) (q : Near (h 
   under =
       let a : Under (h * 2) 1 (h * T) (N * d * T) (z * T) = scale (h * 2) e0 1 h (N * d) z T p.below in
       let b : Under (h * 2) 1 (T * h * N) (N * w * u) (N * d * T) = omega (arith, mul-le-mul_left N q.below) in
-      let c : Under (h * 2) 3 (T * h * N + 2 * (h * T)) (N * w * u) (z * T) = chain (h * 2) e0 1 1 (T * h * N) (h * T) (N * w * u) (N * d * T) (z * T) (omega (arith, h0)) (omega (arith, h0)) b a in
+      let c : Under (h * 2) 3 (T * h * N + 2 * (h * T)) (N * w * u) (z * T) =
+      chain (h * 2) e0 1 1 (T * h * N) (h * T) (N * w * u) (N * d * T) (z * T) (omega (arith, h0)) (omega (arith, h0)) b a in
       let g : Under (h * 2) 32 0 (z * T) (z * W) = omega (arith, mul-le-mul_left z t.above) in
       omega (arith, chain (h * 2) e0 3 32 (T * h * N + 2 * (h * T)) 0 (N * w * u) (z * T) (z * W) (omega (arith, few)) (omega (arith, few)) c g)
 
@@ -77,7 +80,8 @@ module _ (h z N d T w u W : ℕ) (h0 : 0 < h) (few : 96 ≤ h * 2) (q : Near (h 
     high =
         let a = mul-le-mul N0 w0 in
         let b = mul-le-mul T0 N0 in
-        le_of_mul-le-mul_right {k = h * 2} (omega (arith, under, low, mul-le-mul_left W room, mul-le-mul_right u a, mul-le-mul_right h b, mul-le-mul_right h T0)) e0
+        le_of_mul-le-mul_right {k = h * 2}
+        (omega (arith, under, low, mul-le-mul_left W room, mul-le-mul_right u a, mul-le-mul_right h b, mul-le-mul_right h T0)) e0
 
 -- ---- the floats
 -- 2 ^ -25, in units

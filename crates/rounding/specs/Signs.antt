@@ -48,7 +48,9 @@ pub rounding_nonneg : {z : Float} {v : Exact} → Rounding z v → nat 0 ≼ v �
 rounding_nonneg r h = r.least false 0 digits_zero h
 
 -- the sign of a product or a quotient, where a 0 has any
-unlike_nonneg : (s t b : Bool) (m n k : ℕ) → b ≡ unlike s t → nat 0 ≼ signed s m → nat 0 ≼ signed t n → (m ≡ 0 → k ≡ 0) → (n ≡ 0 → k ≡ 0) → nat 0 ≼ signed b k
+unlike_nonneg :
+    (s t b : Bool) (m n k : ℕ) → b ≡ unlike s t → nat 0 ≼ signed s m → nat 0 ≼ signed t n → (m ≡ 0 → k ≡ 0) → (n ≡ 0 → k ≡ 0)
+    → nat 0 ≼ signed b k
 unlike_nonneg false false b m n k e p q f g = rw e (omega arith)
 unlike_nonneg true true b m n k e p q f g = rw e (omega arith)
 unlike_nonneg false true b m n k e p q f g = rw e (omega (arith, g (omega (arith, q))))

@@ -1,7 +1,8 @@
 -- The square root of a finite number that is not negative: how near, in order, and a number of 53 digits stays on its side.
 -- Rests on `Root`, the same for whole numbers of units squared, and the order of roots.
 use Rattle.std.specs.Prelude.{◌≡◌, refl, Bool, true, false, ℕ, zero, suc, ◌*◌, ◌/◌, ◌^◌, ◌≤◌, ◌<◌, ℤ, T, Float}
-use Rattle.std.proofs.Common.{sym, ap, ◌∙◌, subst, zero-le, le_trans, le_of_eq, le_of_lt, lt_of_le_of_lt, le_antisymm, mul_assoc, mul_right_comm, mul-pos, mul-le-mul_right, mul-div_cancel, zero-mul, arith, lit<}
+use Rattle.std.proofs.Common.{sym, ap, ◌∙◌, subst, zero-le, le_trans, le_of_eq, le_of_lt, lt_of_le_of_lt, le_antisymm}
+use Rattle.std.proofs.Common.{mul_assoc, mul_right_comm, mul-pos, mul-le-mul_right, mul-div_cancel, zero-mul, arith, lit<}
 use Rattle.std.proofs.Math.Dec.{lit≤}
 use Rattle.std.specs.Float.{nan, inf, fin, binary64}
 use Rattle.std.specs.Float.Ieee.{up, down, le}
@@ -73,7 +74,12 @@ unfolding root_of sgn
 sqrt_none s e p =
     let x = fin s zero e in
     let z = no_size s e p in
-    record { num = p; nonneg = subst (λ (k : ℕ). nat 0 ≼ signed s k) (sym z) (zero_signed s); size = z ∙ sym (root_zero (mag x * U) (ap (λ (k : ℕ). k * U) z ∙ zero-mul U)) }
+    record {
+      num = p;
+      nonneg = subst (λ (k : ℕ). nat 0 ≼ signed s k) (sym z)
+          (zero_signed s);
+      size = z ∙ sym (root_zero (mag x * U) (ap (λ (k : ℕ). k * U) z ∙ zero-mul U));
+    }
   where
     zero_signed : (s : Bool) → nat 0 ≼ signed s 0
     zero_signed true = omega arith

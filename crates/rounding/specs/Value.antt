@@ -1,7 +1,11 @@
--- A finite f64 read as an exact number: a whole number of units of 2 ^ -1074, the least value above zero, with a sign. Of its size the 53 leading digits are all.
+-- A finite f64 read as an exact number: a whole number of units of 2 ^ -1074, the least value above zero, with a sign. Of
+-- its size the 53 leading digits are all.
 -- Rests on the kit's `fits` and `HasValue`.
-use Rattle.std.specs.Prelude.{◌≡◌, refl, Bool, true, false, not, ◌&&◌, ℕ, zero, suc, ◌+◌, ◌-◌, ◌*◌, ◌/◌, ◌%◌, ◌^◌, ◌≤◌, ◌<◌, ℤ, pos, negsuc, T, ltb, eqb, leb, Float}
-use Rattle.std.proofs.Common.{sym, ap, ◌∙◌, mul_left_comm, le_of_eq, le_of_suc-le-suc, lt_of_le_of_lt, lt_of_lt_of_le, lt_of_not-le, not-le_of_lt, lt_of_mul-lt-mul_right, mul-lt-mul_of_pos_right, mul-pos, mul_assoc, mul_comm, mul_right_comm, mul-one, zero-mul, mul-div_cancel, arith, ltb→lt, leb→le, lit<, pow-add, pow_pos}
+use Rattle.std.specs.Prelude.{◌≡◌, refl, Bool, true, false, not, ◌&&◌, ℕ, zero, suc, ◌+◌, ◌-◌, ◌*◌}
+use Rattle.std.specs.Prelude.{◌/◌, ◌%◌, ◌^◌, ◌≤◌, ◌<◌, ℤ, pos, negsuc, T, ltb, eqb, leb, Float}
+use Rattle.std.proofs.Common.{sym, ap, ◌∙◌, mul_left_comm, le_of_eq, le_of_suc-le-suc, lt_of_le_of_lt, lt_of_lt_of_le, lt_of_not-le}
+use Rattle.std.proofs.Common.{not-le_of_lt, lt_of_mul-lt-mul_right, mul-lt-mul_of_pos_right, mul-pos, mul_assoc, mul_comm, mul_right_comm}
+use Rattle.std.proofs.Common.{mul-one, zero-mul, mul-div_cancel, arith, ltb→lt, leb→le, lit<, pow-add, pow_pos}
 use Rattle.std.proofs.Math.Nat.{pow-succ', eq_of_mul-eq-mul_right}
 use Rattle.std.proofs.Math.Pow.{pow-lt}
 use Rattle.std.specs.Float.{nan, inf, fin, binary64}
@@ -83,7 +87,14 @@ pub digits_whole : (n : ℕ) → n < E → Digits (n * U)
 digits_whole n h = record { q = n; j = low binary64; small = h; is = ap (λ (z : ℕ). n * z) U-is }
 
 pub digits_twice : {g : ℕ} → Digits g → Digits (2 * g)
-digits_twice {g} d = record { q = d.q; j = suc d.j; small = d.small; is = ap (λ (z : ℕ). 2 * z) d.is ∙ mul_left_comm 2 d.q (2 ^ d.j) ∙ ap (λ (z : ℕ). d.q * z) (sym (pow-succ' 2 d.j)) }
+digits_twice {g} d =
+    record {
+      q = d.q;
+      j = suc d.j;
+      small = d.small;
+      is = ap (λ (z : ℕ). 2 * z) d.is ∙ mul_left_comm 2 d.q
+          (2 ^ d.j) ∙ ap (λ (z : ℕ). d.q * z) (sym (pow-succ' 2 d.j));
+    }
 
 pub digits_zero : Digits 0
 digits_zero = record { q = 0; j = 0; small = lit< tt; is = sym (zero-mul 1) }
@@ -100,7 +111,8 @@ record Units (m : ℕ) (e : ℤ) (l : ℕ) : Type 0 where
   is : m * up e * 2 ^ l ≡ m * 2 ^ j * down e
 
 units : (m : ℕ) (e : ℤ) (l : ℕ) → down e ≤ 2 ^ l → Units m e l
-units m (pos k) l h = record { j = k + l; is = mul_assoc m (2 ^ k) (2 ^ l) ∙ ap (λ (z : ℕ). m * z) (sym (pow-add 2 k l)) ∙ sym (mul-one (m * 2 ^ (k + l))) }
+units m (pos k) l h =
+    record { j = k + l; is = mul_assoc m (2 ^ k) (2 ^ l) ∙ ap (λ (z : ℕ). m * z) (sym (pow-add 2 k l)) ∙ sym (mul-one (m * 2 ^ (k + l))) }
 units m (negsuc k) l h =
     let i : suc k ≤ l = pow_le_inv (suc k) l h in
     record { j = l - suc k; is = ap (λ (z : ℕ). m * 1 * z) (pow_split l (suc k) i) ∙ regroup m (2 ^ (l - suc k)) (2 ^ suc k) }
@@ -129,16 +141,20 @@ middle false b c d h = absurd h
 
 held : (s : Bool) (m : ℕ) (e : ℤ) → T (fits binary64 (fin s m e)) → Held s m e
 unfolding fits
-held s zero e h = held_at s zero e (lit< tt) (record { j = 0; is = ap (λ (z : ℕ). z * 2 ^ low binary64) (zero-mul (up e)) ∙ zero-mul (2 ^ low binary64) ∙ sym (zero-mul (down e)) })
+held s zero e h =
+    held_at s zero e (lit< tt)
+    (record { j = 0; is = ap (λ (z : ℕ). z * 2 ^ low binary64) (zero-mul (up e)) ∙ zero-mul (2 ^ low binary64) ∙ sym (zero-mul (down e)) })
 held s (suc m) e h =
-    let f = middle (eqb (suc m % 2) 1) (ltb (suc m) (2 ^ prec binary64)) (leb (down e) (2 ^ low binary64)) (ltb (suc m * up e) (2 ^ suc (emax binary64) * down e)) h in
+    let f =
+    middle (eqb (suc m % 2) 1) (ltb (suc m) (2 ^ prec binary64)) (leb (down e) (2 ^ low binary64)) (ltb (suc m * up e) (2 ^ suc (emax binary64) * down e)) h in
     held_at s (suc m) e (ltb→lt (suc m) E f.0) (units (suc m) e (low binary64) (leb→le (down e) (2 ^ low binary64) f.1))
 
 pub significand : (s : Bool) (m : ℕ) (e : ℤ) → T (fits binary64 (fin s m e)) → m < E
 unfolding fits
 significand s zero e h = lit< tt
 significand s (suc m) e h =
-    ltb→lt (suc m) E (middle (eqb (suc m % 2) 1) (ltb (suc m) (2 ^ prec binary64)) (leb (down e) (2 ^ low binary64)) (ltb (suc m * up e) (2 ^ suc (emax binary64) * down e)) h).0
+    ltb→lt (suc m) E
+    (middle (eqb (suc m % 2) 1) (ltb (suc m) (2 ^ prec binary64)) (leb (down e) (2 ^ low binary64)) (ltb (suc m * up e) (2 ^ suc (emax binary64) * down e)) h).0
 
 pub own : (x : Float) → Num x → HasValue x (sgn x) (mag x) U
 unfolding sgn
@@ -154,11 +170,18 @@ digits (fin t m e) h = (held t m e h.fit).digits
 -- it is below 2 ^ 1024
 under : (s : Bool) (m : ℕ) (e : ℤ) → T (fits binary64 (fin s m e)) → HasValue (fin s m e) s (mag (fin s m e)) U → mag (fin s m e) < overflow binary64
 unfolding fits U
-under s zero e h v = lt_of_mul-lt-mul_right (down e) (lt_of_le_of_lt (le_of_eq (sym v.1 ∙ ap (λ (z : ℕ). z * U) (zero-mul (up e)) ∙ zero-mul U)) (mul-pos (pow_pos (low binary64 + suc (emax binary64))) (down_pos e)))
-under s (suc m) e h v =
-    let l = ltb→lt (suc m * up e) (2 ^ suc (emax binary64) * down e) (last (eqb (suc m % 2) 1) (ltb (suc m) (2 ^ prec binary64)) (leb (down e) (2 ^ low binary64)) (ltb (suc m * up e) (2 ^ suc (emax binary64) * down e)) h) in
+under s zero e h v =
     lt_of_mul-lt-mul_right (down e)
-    (lt_of_le_of_lt (le_of_eq (sym v.1)) (lt_of_lt_of_le (mul-lt-mul_of_pos_right l U_pos) (le_of_eq (mul_right_comm (2 ^ suc (emax binary64)) (down e) U ∙ ap (λ (z : ℕ). z * down e) (mul_comm (2 ^ suc (emax binary64)) U)))))
+    (lt_of_le_of_lt (le_of_eq (sym v.1 ∙ ap (λ (z : ℕ). z * U) (zero-mul (up e)) ∙ zero-mul U))
+    (mul-pos (pow_pos (low binary64 + suc (emax binary64))) (down_pos e)))
+under s (suc m) e h v =
+    let l =
+    ltb→lt (suc m * up e) (2 ^ suc (emax binary64) * down e)
+    (last (eqb (suc m % 2) 1) (ltb (suc m) (2 ^ prec binary64)) (leb (down e) (2 ^ low binary64)) (ltb (suc m * up e) (2 ^ suc (emax binary64) * down e)) h) in
+    lt_of_mul-lt-mul_right (down e)
+    (lt_of_le_of_lt (le_of_eq (sym v.1))
+    (lt_of_lt_of_le (mul-lt-mul_of_pos_right l U_pos)
+    (le_of_eq (mul_right_comm (2 ^ suc (emax binary64)) (down e) U ∙ ap (λ (z : ℕ). z * down e) (mul_comm (2 ^ suc (emax binary64)) U)))))
   where
     last : (a b c d : Bool) → T (a && b && c && d) → T d
     last true true true d h = h

@@ -1,7 +1,8 @@
 -- Whole numbers: an integer as a float, rounded or exact, a product with one, and floor as a whole number.
 -- Rests on `Errors` (53 digits do not change) and float's laws of floor.
 use Rattle.std.specs.Prelude.{◌≡◌, Bool, true, false, ℤ, pos, negsuc, nat_abs, T, Float}
-use Rattle.std.proofs.Common.{sym, ap, ◌∙◌, inl, inr, mul-one, mul-le-mul_right, le_of_mul-le-mul_right, lt_of_mul-lt-mul_right, mul-lt-mul_of_pos_right, div-mul-le_self, arith, lit<, pow_pos}
+use Rattle.std.proofs.Common.{sym, ap, ◌∙◌, inl, inr, mul-one, mul-le-mul_right, le_of_mul-le-mul_right}
+use Rattle.std.proofs.Common.{lt_of_mul-lt-mul_right, mul-lt-mul_of_pos_right, div-mul-le_self, arith, lit<, pow_pos}
 use Prim.Native.Nat.{ℕ, zero, suc, ◌+◌, ◌-◌, ◌*◌, ◌/◌, ◌^◌, ◌≤◌, ◌<◌}
 use Rattle.std.proofs.Math.Nat.{eq_of_mul-eq-mul_right, lt-div-mul-add}
 use Rattle.std.specs.Float.{nan, inf, fin, binary64}
@@ -71,7 +72,9 @@ pub record Floored (x y : Float) : Type 0 where
   pub high : val x ≺ val y ⊕ nat U
 
 -- by the value of y
-floored : (x y : Float) (s : Bool) (n : ℕ) → T (fits binary64 y) → HasValue y s n 1 → (val y ≡ signed s (n * U) → (val y ≼ val x) × (val x ≺ val y ⊕ nat U)) → Floored x y
+floored :
+    (x y : Float) (s : Bool) (n : ℕ) → T (fits binary64 y) → HasValue y s n 1
+    → (val y ≡ signed s (n * U) → (val y ≼ val x) × (val x ≺ val y ⊕ nat U)) → Floored x y
 floored x y s n f v h =
     let p : Num y = record { fit = f; fine = fine_of y s n 1 v } in
     let m : mag y ≡ n * U = sym (mul-one (mag y)) ∙ value_mag y s n 1 p v in

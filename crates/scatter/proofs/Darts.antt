@@ -10,6 +10,7 @@ use Rattle.std.proofs.Math.ListN.{length, length-append}
 use Rattle.laws.specs.Lists.{written}
 use Rattle.glyphs.specs.declared.rect.Point.{Point}
 use Rattle.glyphs.specs.declared.rect.Rectangle.{Rectangle}
+use Rattle.glyphs.specs.declared.stream.Drawn.{Drawn}
 use Rattle.glyphs.specs.declared.stream.Stream.{Stream}
 use Rattle.glyphs.specs.Bounds.{ring_bounds}
 use Rattle.glyphs.specs.Spots.{spots_of, flat, apart, put_spot}
@@ -19,11 +20,9 @@ use Rattle.relax.specs.declared.Spreading.{Spreading}
 use Rattle.relax.specs.Kept.{length_relaxed}
 use Rattle.relax.specs.Scatter.{relax_scatter}
 use Rattle.lattice.specs.Context.{inset, spacing}
-use Rattle.lattice.specs.Escape.{point}
 use Rattle.lattice.specs.declared.context.PackCtx.{PackCtx}
 use Rattle.scatter.specs.Placed.{Front, length_first, placed_front, first_put, front_put, placed_over}
 use Rattle.scatter.specs.Random.{Thrown, Dart, hit, miss, after_dart, lands, throw, glyphs, throws, throw_within, pack_random_piece}
-use Rattle.scatter.specs.declared.random.Aimed.{Aimed}
 use Rattle.scatter.specs.declared.random.Taken.{Taken}
 use Rattle.scatter.specs.declared.site.Site.{Site}
 use Rattle.scatter.specs.Sites.{Boxed, Beside, ends_first}
@@ -78,22 +77,22 @@ module _ (site : Site) (attempts : ℕ) (honor : Bool) where
       let e : attempts - t ≡ 0 = omega arith in
       rw e
 
-  module _ (t count : ℕ) (rng : Stream) (spots : List Float) (h : t < attempts) (d : Aimed) (ed : d ≡ aimed rng site.extents) where
+  module _ (t count : ℕ) (rng : Stream) (spots : List Float) (h : t < attempts) (d : Drawn Point) (ed : d ≡ aimed rng site.extents) where
     abbrev lands_here : Bool
     lands_here =
         lands (rings_of site.piece) site.n attempts site.ctx site.near.now
-        site.extents.min_x site.extents.max_x site.extents.min_y site.extents.max_y honor (take count (spots_of spots)) (point d.x d.y)
+        site.extents.min_x site.extents.max_x site.extents.min_y site.extents.max_y honor (take count (spots_of spots)) d.value
 
     attempt :
         darts site attempts honor (attempts - t) (take count (spots_of spots)) rng
-        ≡ cond lands_here (hit (point d.x d.y) d.next) (darts site attempts honor (attempts - (t + 1)) (take count (spots_of spots)) d.next)
+        ≡ cond lands_here (hit d.value d.next) (darts site attempts honor (attempts - (t + 1)) (take count (spots_of spots)) d.next)
     unfolding throw
     attempt =
         let e : attempts - t ≡ suc (attempts - (t + 1)) = omega arith in
         rw (e, ed)
 
     module _
-        (placed : List Float) (ep : spots_of placed ≡ take count (spots_of spots)) (b : Bool) (eb : b ≡ lands_at site honor (spots_of placed) (point d.x d.y))
+        (placed : List Float) (ep : spots_of placed ≡ take count (spots_of spots)) (b : Bool) (eb : b ≡ lands_at site honor (spots_of placed) d.value)
       where
         told : lands_here ≡ b
         unfolding lands apart
@@ -105,11 +104,11 @@ module _ (site : Site) (attempts : ℕ) (honor : Bool) where
             rw (attempt, told, e) (same_marks (marks site attempts honor (site.n - (count + 1))) (take count (spots_of spots)) rng d.next later)
 
         pub landed :
-            (later entry : List Float) → b ≡ true → later ≡ put_spot spots count (point d.x d.y)
+            (later entry : List Float) → b ≡ true → later ≡ put_spot spots count d.value
             → length spots ≡ length entry → count * 2 + 1 < length entry → Front count spots entry
             → Front (count + 1) later entry × (trying site attempts honor t count rng spots ≡ pass_from site attempts honor (count + 1) d.next later)
         landed later entry e put same k front =
-            let p = point d.x d.y in
+            let p = d.value in
             let f : take (count + 1) (spots_of (put_spot spots count p)) ≡ take count (spots_of spots) ++ p ∷ [] = first_put count spots entry same front p k in
             rw put (front_put count spots entry same front p k, rw (attempt, told, e, f))
 

@@ -1,23 +1,22 @@
 -- The spacing test of low discrepancy by what it reads: the cells that spots are kept in, by the ranks of their numbers.
 -- Definitions for the code, with their laws. Rests on the laws of ranks, and of `all` over a block.
-use Rattle.std.specs.Prelude.{◌≡◌, refl, ◌⊎◌, Bool, true, false, not, ◌&&◌, ◌||◌, List, [], ◌∷◌, length, get_or, take, drop, Float}
-use Rattle.std.specs.Prelude.{ℕ, zero, suc, ◌+◌, ◌-◌, ◌*◌, ◌≤◌, ◌<◌, eqb, leb, ℤ, pos, negsuc}
-use Rattle.std.proofs.Common.{sym, ◌∙◌, inl, inr, arith, ne_eqb, drop-drop}
+use Rattle.std.specs.Prelude.{◌≡◌, refl, ◌⊎◌, Bool, true, false, not, ◌&&◌, ◌||◌, List, [], ◌∷◌, length, get_or, drop, Float}
+use Rattle.std.specs.Prelude.{ℕ, zero, suc, ◌-◌, ◌*◌, ◌≤◌, ◌<◌, eqb, leb, ℤ, pos, negsuc}
+use Rattle.std.proofs.Common.{sym, inl, inr, arith, ne_eqb}
 use Rattle.std.proofs.lemmas.Bool.Decides.{nat_tests}
 use Rattle.std.proofs.lemmas.List.Recursion.{and_fails_at}
 use Rattle.std.specs.Int.{abs_diff}
 use Rattle.std.specs.Simd.{first_chunks}
-use Rattle.std.proofs.Math.Bool.{or-true, or-false, and_assoc}
+use Rattle.std.proofs.Math.Bool.{or-true, or-false}
 use Rattle.std.proofs.Math.IntN.{suc_ℤ, pred_ℤ}
 use Rattle.laws.specs.Any.{all}
-use Rattle.laws.specs.Blocks.{all_block}
 use Rattle.laws.specs.Orders.{lt_or_le}
 use Rattle.float.specs.Ops.{◌*ᶠ◌, ◌≥ᶠ◌, ε}
 use Rattle.float.specs.Order as Float
 use Rattle.glyphs.specs.declared.rect.Point.{Point}
 use Rattle.glyphs.specs.Spots as Spots
+use Rattle.glyphs.specs.Spots.{squared_distance}
 use Rattle.lattice.specs.Context.{spacing}
-use Rattle.lattice.specs.Escape.{squared_distance}
 use Rattle.lattice.specs.Span.{middle, rank_of, of_rank, of_high, of_low, of_rank_cast}
 use Rattle.lattice.specs.declared.context.PackCtx.{PackCtx}
 use Rattle.scatter.specs.LowDiscrepancy.{sameℤ, beside, cell_number, neighbours}
@@ -91,13 +90,13 @@ unfolding keeps
 near_keeps cells p q e = rw e (or-false _)
 
 -- spots that are all far enough
-pub all_far : (cells : Cells) (p : Point) (qs : List Point) → all (Spots.apart p.x p.y cells.least) qs ≡ true → all (keeps cells p) qs ≡ true
+pub all_far : (cells : Cells) (p : Point) (qs : List Point) → all (Spots.apart p cells.least) qs ≡ true → all (keeps cells p) qs ≡ true
 unfolding all Spots.apart
 all_far cells p [] e = refl
 all_far cells p (q ∷ qs) e = both (squared_distance p q ≥ᶠ cells.least) refl e (all_far cells p qs)
   where
     rest : Bool
-    rest = all (Spots.apart p.x p.y cells.least) qs
+    rest = all (Spots.apart p cells.least) qs
 
     both :
         (t : Bool) → squared_distance p q ≥ᶠ cells.least ≡ t → t && rest ≡ true → (rest ≡ true → all (keeps cells p) qs ≡ true)
@@ -112,13 +111,7 @@ module _ (cells : Cells) (p : Point) where
 
   pub keeps_cut :
       (k : ℕ) (l : List Float) → keeps_block l ≡ all keeps_block (first_chunks 16 k l) && keeps_block (drop (k * 16) l)
-  unfolding all
-  keeps_cut zero l = refl
-  keeps_cut (suc k) l =
-      let step : suc k * 16 ≡ 16 + k * 16 = omega arith in
-      all_block (keeps cells p) 8 0 (Spots.spots_of l)
-      ∙ rw (step, ← drop-drop (k * 16) 16 l, ← Spots.spots_take 8 l, ← Spots.spots_drop 8 l, keeps_cut k (drop 16 l))
-      (sym (and_assoc (keeps_block (take 16 l)) (all keeps_block (first_chunks 16 k (drop 16 l))) (keeps_block (drop (k * 16) (drop 16 l)))))
+  keeps_cut k l = Spots.all_cut (keeps cells p) k l
 
 -- one spot that fails is enough
 pub one_fails : {A : Type 0} (f : A → Bool) (xs : List A) (k : ℕ) (d : A) → k < length xs → f (get_or xs k d) ≡ false → all f xs ≡ false

@@ -8,6 +8,7 @@ use Rattle.laws.specs.Lists.{written}
 use Rattle.float.specs.Ops.{◌*ᶠ◌, ◌≥ᶠ◌}
 use Rattle.glyphs.specs.declared.bounds.Extents.{Extents}
 use Rattle.glyphs.specs.declared.rect.Point.{Point}
+use Rattle.glyphs.specs.declared.stream.Drawn.{Drawn}
 use Rattle.glyphs.specs.declared.stream.Stream.{Stream}
 use Rattle.glyphs.specs.Rect.{clear_of_obstacles}
 use Rattle.glyphs.specs.Spots.{spots_of, flat, apart}
@@ -16,16 +17,15 @@ use Rattle.regions.specs.Clearance.{signed_clearance}
 use Rattle.regions.specs.Pieces.{rings_of}
 use Rattle.lattice.specs.Context.{inset, spacing}
 use Rattle.scatter.specs.Random.{Thrown, Dart, after_dart, throw, glyphs, throws}
-use Rattle.scatter.specs.declared.random.Aimed.{Aimed}
 use Rattle.scatter.specs.declared.random.Taken.{Taken}
 use Rattle.scatter.specs.declared.site.Site.{Site}
 
 -- where the next dart is thrown: let x = rng.random_range(..); let y = rng.random_range(..)
-abbrev pub aimed : Stream → Extents → Aimed
+abbrev pub aimed : Stream → Extents → Drawn Point
 aimed rng range =
     let x = random_range rng range.min_x range.max_x in
     let y = random_range x.next range.min_y range.max_y in
-    record { x = x.value; y = y.value; next = y.next }
+    record { value = record { x = x.value; y = y.value }; next = y.next }
 
 -- the first marks of a slice, and a stream
 abbrev pub held_in : ℕ → Stream → List Float → Thrown
@@ -38,7 +38,7 @@ Holds thrown t exit entry = (t.count ≡ length thrown.placed) × (t.rng ≡ thr
 -- a place keeps the spacing to the marks placed, the clearance and, where it is to honor them, the obstacles
 abbrev pub lands_at : Site → Bool → List Point → Point → Bool
 lands_at site honor placed p =
-    all (apart p.x p.y (spacing site.ctx *ᶠ spacing site.ctx)) placed
+    all (apart p (spacing site.ctx *ᶠ spacing site.ctx)) placed
     && signed_clearance p.x p.y (rings_of site.piece) ≥ᶠ inset site.ctx
     && (not honor || clear_of_obstacles p.x p.y site.near.now (inset site.ctx))
 

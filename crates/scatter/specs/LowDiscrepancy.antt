@@ -15,7 +15,8 @@ use Rattle.glyphs.specs.Rect.{clear_of_obstacles}
 use Rattle.regions.specs.Ring.{Piece, outer}
 use Rattle.regions.specs.Clearance.{signed_clearance}
 use Rattle.lattice.specs.Context.{inset, spacing}
-use Rattle.lattice.specs.Escape.{point, squared_distance, escape_obstacles}
+use Rattle.glyphs.specs.Spots.{squared_distance}
+use Rattle.lattice.specs.Escape.{point, escape_obstacles}
 use Rattle.lattice.specs.Uniform.{local_to}
 use Rattle.lattice.specs.declared.context.PackCtx.{PackCtx}
 

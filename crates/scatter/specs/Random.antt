@@ -8,13 +8,14 @@ use Rattle.glyphs.specs.declared.stream.Stream.{Stream}
 use Rattle.glyphs.specs.declared.bounds.Extents.{Extents}
 use Rattle.glyphs.specs.Bounds.{ring_bounds}
 use Rattle.glyphs.specs.Rect.{clear_of_obstacles}
+use Rattle.glyphs.specs.Spots.{squared_distance}
 use Rattle.glyphs.specs.Stream.{random_range}
 use Rattle.regions.specs.Ring.{Piece, outer}
 use Rattle.regions.specs.Clearance.{signed_clearance}
 use Rattle.relax.specs.declared.Spreading.{Spreading}
 use Rattle.relax.specs.Scatter.{relax_scatter}
 use Rattle.lattice.specs.Context.{inset, spacing}
-use Rattle.lattice.specs.Escape.{point, squared_distance}
+use Rattle.lattice.specs.Escape.{point}
 use Rattle.lattice.specs.Uniform.{local_to}
 use Rattle.lattice.specs.declared.context.PackCtx.{PackCtx}
 

@@ -7,10 +7,9 @@ ghost use Rattle.lattice.specs.Span.{rank_of};
 ghost use Rattle.scatter.specs.LowDiscrepancy.{cell_number, beside, neighbours};
 ghost use Rattle.scatter.specs.Cells.{cells_of, keeps};
 
-use glyphs::rect::Point;
+use glyphs::rect::{Point, squared_distance};
 use glyphs::spots::{apart_from_eight, spot};
 use lattice::context::PackCtx;
-use lattice::nearest::squared_distance;
 use lattice::span::floor_rank;
 
 // Where the first cell begins, the cells' size, and the square of the spacing. The tests borrow it: passed by value it would
@@ -87,7 +86,7 @@ impl Cells {
     fn keeps_eight(&self, p: Point, block: &[f64; 16]) -> bool
         ensures { result ≡ all (keeps self.now p) (spots_of block.now) }
     {
-        apart_from_eight(p.x, p.y, self.least, &block[..], 0) || self.keeps_each(p, &block[..])
+        apart_from_eight(p, self.least, block) || self.keeps_each(p, &block[..])
     }
 
     // The same for all spots.

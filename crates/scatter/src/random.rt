@@ -12,7 +12,7 @@ use crate::site::Site;
 use glyphs::bounds::Extents;
 use glyphs::rect::{Point, Rectangle};
 use glyphs::spots::{apart_from_all, put_spot, spots_before};
-use glyphs::stream::Stream;
+use glyphs::stream::{Drawn, Stream};
 use lattice::context::PackCtx;
 use lattice::uniform::piece_bounds;
 use regions::piece::RegionPiece;
@@ -31,28 +31,22 @@ fn lands(site: &Site, honor: bool, p: Point, placed: &[f64]) -> bool
     ensures { result ≡ lands_at site.now honor (spots_of placed.now) p }
 {
     let spacing = site.ctx.spacing();
-    apart_from_all(p.x, p.y, spacing * spacing, placed)
+    apart_from_all(p, spacing * spacing, placed)
         && site.clears(p)
         && (!honor || site.clears_obstacles(p))
 }
 
-// Where a dart is thrown, and the stream after it.
-#[derive(Clone, Copy)]
-pub struct Aimed {
-    pub x: f64,
-    pub y: f64,
-    pub next: Stream,
-}
-
-// The next dart: x is drawn, then y.
-fn aim(rng: Stream, range: Extents) -> Aimed
+// Where the next dart is thrown: x is drawn, then y.
+fn aim(rng: Stream, range: Extents) -> Drawn<Point>
     ensures { result ≡ aimed rng range }
 {
     let x = rng.random_range(range.min_x, range.max_x);
     let y = x.next.random_range(range.min_y, range.max_y);
-    Aimed {
-        x: x.value,
-        y: y.value,
+    Drawn {
+        value: Point {
+            x: x.value,
+            y: y.value,
+        },
         next: y.next,
     }
 }
@@ -70,10 +64,7 @@ fn throw_glyphs(site: &Site, attempts: u32, honor: bool, start: Taken, spots: &m
     let mut ahead = aim(rng, range);
     'glyphs: for count in start.count..n {
         for _ in 0..attempts {
-            let p = Point {
-                x: ahead.x,
-                y: ahead.y,
-            };
+            let p = ahead.value;
             rng = ahead.next;
             ahead = aim(rng, range);
             let placed = spots_before(&spots[..], count);
@@ -100,7 +91,8 @@ fn throw_passes(site: &Site, attempts: u32, rng: Stream, spots: &mut [f64]) -> T
     throw_glyphs(site, attempts, false, first, &mut spots[..])
 }
 
-// Evens out the first `count` marks of `spots`; `unrooted` and `honoring` lend the room for what relaxation notes of each.
+// Evens out the first `count` marks of `spots`, which C lends as floats, two for each; `unrooted` and `honoring` lend the room
+// for what relaxation notes of each.
 fn relax_placed(
     numbers: Spreading,
     count: usize,

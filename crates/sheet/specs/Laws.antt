@@ -1,14 +1,16 @@
 -- Laws of a sheet's bytes as they are put, part after part.
 -- Rests on the laws of runs of stores.
 use Rattle.std.specs.Prelude.{ℕ, zero, suc, ◌+◌, ◌-◌, ◌≤◌, ◌<◌, ◌≡◌, refl, length, get_or, take, drop, set, Float}
-use Rattle.std.proofs.Common.{sym, ◌∙◌, arith, add-one, drop_of_length-le, drop-cons}
-use mathlib.Core.List.{List, ◌++◌, append_assoc, flat_map}
+use Rattle.std.proofs.Common.{sym, ◌∙◌, arith, add-one, drop_of_length-le, drop-cons, length-append}
+use mathlib.Core.List.{List, [], ◌++◌, append_assoc, flat_map}
 use Rattle.std.proofs.lemmas.List.Edits.{sets}
 use Rattle.format.specs.Numbers.{bytes, float_bytes}
 use Rattle.format.specs.NumberLaws.{length_bytes, next_byte_lem}
 use Rattle.format.specs.RowLaws.{sets_append}
 use Rattle.format.specs.Back.{length_float}
 use Rattle.sheet.specs.Sheet.{zone_head, sheet_head}
+use Rattle.sheet.specs.declared.Writer.{Writer}
+use Rattle.sheet.specs.Steps.{Put}
 
 -- ---- the parts of the two heads
 
@@ -64,3 +66,17 @@ spots_turn l at spots i d h e =
 pub spots_end : {x : List ℕ} (l : List ℕ) (at : ℕ) (spots : List Float) (i : ℕ) → length spots ≤ i → x ≡ sets l at (flat_map float_bytes (drop i spots)) → l ≡ x
 unfolding flat_map
 spots_end l at spots i h e = sym (e ∙ rw (drop_of_length-le spots h))
+
+-- ---- what the writer leaves behind: nothing, and one part behind another
+
+pub put_none : (w : Writer) → Put [] 0 w w
+put_none w = record { same = refl; put = refl; at = omega arith; zones = omega arith }
+
+pub put_both : {a b c : Writer} (xs ys : List ℕ) (m n : ℕ) → Put xs m a b → Put ys n b c → Put (xs ++ ys) (m + n) a c
+put_both {a} {b} {c} xs ys m n f g =
+    record {
+      same = g.same ∙ f.same;
+      put = g.put ∙ rw (f.put, f.at) (sym (sets_append a.sheet.now a.at xs ys));
+      at = simp length-append (omega (arith, f.at, g.at));
+      zones = omega (arith, f.zones, g.zones);
+    }

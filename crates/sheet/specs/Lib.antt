@@ -1,4 +1,5 @@
 pub mod Sheet
+pub mod Steps
 pub mod Back
 pub mod Laws
 pub mod Examples

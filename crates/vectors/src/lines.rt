@@ -13,9 +13,9 @@ pub fn bits<R: Print>(rt: &R, asked: &str, answer: u64) -> io::Result<()> {
 
 // A float's bit pattern, or that it is a NaN.
 pub fn float<R: Print>(rt: &R, asked: &str, answer: f64) -> io::Result<()> {
-    if answer != answer {
+    if answer.is_nan() {
         println!(rt; "{asked} = NaN")
     } else {
-        bits(rt, asked, f64::to_bits(answer))
+        bits(rt, asked, answer.to_bits())
     }
 }

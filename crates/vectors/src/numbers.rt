@@ -9,7 +9,7 @@ fn root<R: Print>(rt: &R, asked: &str, x: f64) -> io::Result<()> {
 fn inverse<R: Print>(rt: &R, asked: &str, index: u64, base: u64) -> io::Result<()> {
     match marks::leaves::radical_inverse(index, base) {
         Ok(value) => float(rt, asked, value),
-        Err(refusal) => number(rt, asked, u8::from(refusal) as u64),
+        Err(refusal) => number(rt, asked, u64::from(u8::from(refusal))),
     }
 }
 
@@ -18,14 +18,10 @@ fn roots<R: Print>(rt: &R) -> io::Result<()> {
     root(rt, "root of -0", -0.0)?;
     root(rt, "root of 2", 2.0)?;
     root(rt, "root of -1", -1.0)?;
-    root(rt, "root of infinity", 1.0 / 0.0)?;
-    root(rt, "root of NaN", 0.0 / 0.0)?;
+    root(rt, "root of infinity", f64::INFINITY)?;
+    root(rt, "root of NaN", f64::NAN)?;
     root(rt, "root of the least", f64::from_bits(1))?;
-    root(
-        rt,
-        "root of the greatest",
-        f64::from_bits(0x7fef_ffff_ffff_ffff),
-    )?;
+    root(rt, "root of the greatest", f64::MAX)?;
     root(
         rt,
         "root of the least below 1",
@@ -40,12 +36,7 @@ fn inverses<R: Print>(rt: &R) -> io::Result<()> {
     inverse(rt, "inverse of 6 in base 1", 6, 1)?;
     inverse(rt, "inverse of 1 in base 65,536", 1, 65536)?;
     inverse(rt, "inverse of 1 in base 65,537", 1, 65537)?;
-    inverse(
-        rt,
-        "inverse of the greatest in base 2",
-        0xffff_ffff_ffff_ffff,
-        2,
-    )
+    inverse(rt, "inverse of the greatest in base 2", u64::MAX, 2)
 }
 
 pub fn run<R: Print>(rt: &R) -> io::Result<()> {

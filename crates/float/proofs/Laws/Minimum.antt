@@ -1,4 +1,5 @@
--- The least of roots is the root of the least, as data and not by value alone: of two by the test that a program makes, by `min`, and of any number one after another.
+-- The least of roots is the root of the least, as data and not by value alone: of two by the test that a program makes, by
+-- `min`, and of any number one after another.
 -- The values are those of `Laws/Square.antt`: a NaN, -0 and the infinity are among them. Rests on `Laws/Monotone.antt` and `Laws/Same.antt`.
 use Rattle.std.specs.Prelude.{◌≡◌, List, [], ◌∷◌, map, refl, Float}
 use Rattle.std.proofs.Common.{ap, ◌∙◌}

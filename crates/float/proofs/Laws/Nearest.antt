@@ -16,7 +16,9 @@ module _ (n u q : ℕ) (U : 0 < u) (l : q * q * u ≤ n) (h : n < (q + 1) * (q +
   stay : 4 * n ≤ (2 * q + 1) * (2 * q + 1) * u → (4 * n ≡ (2 * q + 1) * (2 * q + 1) * u → q % 2 ≡ 0) → Nearest n u q
   stay c t = go q l c t
     where
-      go : (q : ℕ) → q * q * u ≤ n → 4 * n ≤ (2 * q + 1) * (2 * q + 1) * u → (4 * n ≡ (2 * q + 1) * (2 * q + 1) * u → q % 2 ≡ 0) → Nearest n u q
+      go :
+          (q : ℕ) → q * q * u ≤ n → 4 * n ≤ (2 * q + 1) * (2 * q + 1) * u → (4 * n ≡ (2 * q + 1) * (2 * q + 1) * u → q % 2 ≡ 0)
+          → Nearest n u q
       go zero l c t = record { low = omega arith; high = c; even_low = λ e. omega arith; even_high = t }
       go (suc p) l c t =
           let e : 2 * suc p - 1 ≡ 2 * p + 1 = omega arith in
@@ -49,6 +51,12 @@ nearest_is f n =
     let q = w / 2 ^ k in
     let i = whole_part n in
     let next : w + 1 ≤ (q + 1) * 2 ^ k = omega (arith, lt-div-mul-add {a = w} (pow_pos k)) in
-    let low : q * q * (2 ^ k * 2 ^ k) ≤ n = le_trans (le_of_eq (mul-mul-mul_comm q q (2 ^ k) (2 ^ k))) (le_trans (mul-le-mul (div-mul-le_self w (2 ^ k)) (div-mul-le_self w (2 ^ k))) i.0) in
-    let high : n < (q + 1) * (q + 1) * (2 ^ k * 2 ^ k) = lt_of_lt_of_le i.1 (le_trans (mul-le-mul next next) (le_of_eq (mul-mul-mul_comm (q + 1) (2 ^ k) (q + 1) (2 ^ k)))) in
-    (nearest q (compare (4 * n) (mid q k)), k, refl, nearest_of n (2 ^ k * 2 ^ k) q (mul-pos (pow_pos k) (pow_pos k)) low high (compare (4 * n) (mid q k)) (says (4 * n) (mid q k)))
+    let low : q * q * (2 ^ k * 2 ^ k) ≤ n =
+    le_trans (le_of_eq (mul-mul-mul_comm q q (2 ^ k) (2 ^ k))) (le_trans (mul-le-mul (div-mul-le_self w (2 ^ k)) (div-mul-le_self w (2 ^ k))) i.0) in
+    let high : n < (q + 1) * (q + 1) * (2 ^ k * 2 ^ k) =
+    lt_of_lt_of_le i.1 (le_trans (mul-le-mul next next) (le_of_eq (mul-mul-mul_comm (q + 1) (2 ^ k) (q + 1) (2 ^ k)))) in (
+      nearest q (compare (4 * n) (mid q k)),
+      k,
+      refl,
+      nearest_of n (2 ^ k * 2 ^ k) q (mul-pos (pow_pos k) (pow_pos k)) low high (compare (4 * n) (mid q k)) (says (4 * n) (mid q k)),
+    )

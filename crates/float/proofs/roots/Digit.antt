@@ -1,6 +1,7 @@
 -- The digits of a square root, one at a time, for every width: b is the weight of the last digit found, q the digits, and rest * b what is left of y.
 -- One step goes from the weight b * 2 to b; at the weight 1 q is the whole part of √y, and what is left says whether it is rounded up. Assumes nothing.
-use Rattle.std.proofs.Common.{◌≡◌, ℕ, zero, suc, ◌+◌, ◌-◌, ◌*◌, ◌/◌, ◌^◌, ◌<◌, ◌≤◌, sym, ap, ◌∙◌, subst, zero-lt-suc, pow-suc, mul-div_cancel, arith, pow_pos}
+use Rattle.std.proofs.Common.{◌≡◌, ℕ, zero, suc, ◌+◌, ◌-◌, ◌*◌, ◌/◌, ◌^◌, ◌<◌, ◌≤◌}
+use Rattle.std.proofs.Common.{sym, ap, ◌∙◌, subst, zero-lt-suc, pow-suc, mul-div_cancel, arith, pow_pos}
 use Rattle.float.specs.Root.{Near}
 
 abbrev pub Digits : ℕ → ℕ → ℕ → ℕ → Type 0

@@ -1,6 +1,8 @@
 -- The bit pattern of r * 2 ^ k of the smallest values, for an r of 53 digits, or the next power of two: k in the exponent's field, and r added to it.
 -- Rests on `Laws/Pattern.antt`.
-use Rattle.std.proofs.Common.{◌≡◌, ℕ, suc, ◌+◌, ◌-◌, ◌*◌, ◌/◌, ◌^◌, ◌<◌, ◌≤◌, true, false, sym, ap, ◌∙◌, subst, inl, inr, true≢false, le_trans, le_of_eq, lt_of_lt_of_le, mul-le-mul_right, mul_assoc, eq-or-lt_of_le, mul-lt-mul_of_pos_right, lt_of_not-le, not-le_of_lt, mul-div_cancel, arith, lit<, lit≤, pow_pos, pow_mono, pow-add}
+use Rattle.std.proofs.Common.{◌≡◌, ℕ, suc, ◌+◌, ◌-◌, ◌*◌, ◌/◌, ◌^◌, ◌<◌, ◌≤◌, true, false, sym, ap, ◌∙◌}
+use Rattle.std.proofs.Common.{subst, inl, inr, true≢false, le_trans, le_of_eq, lt_of_lt_of_le, mul-le-mul_right, mul_assoc, eq-or-lt_of_le}
+use Rattle.std.proofs.Common.{mul-lt-mul_of_pos_right, lt_of_not-le, not-le_of_lt, mul-div_cancel, arith, lit<, lit≤, pow_pos, pow_mono, pow-add}
 use native.Mathlib.Nat.{pow-succ'}
 use lib.Ieee.{Float, nan, inf, fin, binary64, down, size, units, to_bits}
 use lib.Ieee.Digits.{size-lt, size-le}
@@ -20,7 +22,9 @@ dropped : (r k : ℕ) → 2 ^ 52 ≤ r → r < 2 ^ 53 → size (r * 2 ^ k) - 53 
 dropped r k l h =
     let n = r * 2 ^ k in
     let few : size n ≤ 53 + k = size-le n (53 + k) (lt_of_lt_of_le (mul-lt-mul_of_pos_right h (pow_pos k)) (le_of_eq (sym (pow-add 2 53 k)))) in
-    let many : 52 + k < size n = lt_of_not-le (λ (g : size n ≤ 52 + k). not-le_of_lt (lt_of_lt_of_le (size-lt n) (pow_mono g)) (le_trans (le_of_eq (pow-add 2 52 k)) (mul-le-mul_right (2 ^ k) l))) in
+    let many : 52 + k < size n =
+    lt_of_not-le
+    (λ (g : size n ≤ 52 + k). not-le_of_lt (lt_of_lt_of_le (size-lt n) (pow_mono g)) (le_trans (le_of_eq (pow-add 2 52 k)) (mul-le-mul_right (2 ^ k) l))) in
     omega arith
 
 plain : (r k : ℕ) → 2 ^ 52 ≤ r → r < 2 ^ 53 → of_units (r * 2 ^ k) ≡ k * 2 ^ 52 + r

@@ -1,6 +1,7 @@
 -- What is left of m * 2 ^ 52 after a square; and that r is nearest to the root, by what is left.
 -- Assumes nothing.
-use Rattle.std.proofs.Common.{◌≡◌, ℕ, zero, suc, ◌+◌, ◌*◌, ◌/◌, ◌%◌, ◌^◌, ◌<◌, ◌≤◌, Bool, ltb, inl, inr, mul-le-mul, arith, le-ltb, lt-ltb}
+use Rattle.std.proofs.Common.{◌≡◌, ℕ, zero, suc, ◌+◌, ◌*◌, ◌/◌, ◌%◌, ◌^◌, ◌<◌}
+use Rattle.std.proofs.Common.{◌≤◌, Bool, ltb, inl, inr, mul-le-mul, arith, le-ltb, lt-ltb}
 use mir.Val.{bool_byte}
 use Rattle.laws.specs.Truth.{flag_le}
 use Rattle.laws.specs.Orders.{lt_or_le}

@@ -1,6 +1,7 @@
 -- What the tests of `root` say of its argument: above zero, infinite, zero, or none of these.
 -- Rests on `Laws/Zero.antt`, `Laws/Pattern.antt` and the kit's account of bit patterns.
-use Rattle.std.proofs.Common.{◌≡◌, zero, suc, ◌<◌, ◌≤◌, true, false, not, T, sym, refl, ap, ◌∙◌, subst, inl, inr, eq-zero-or-pos, not-le_of_lt, T_not}
+use Rattle.std.proofs.Common.{◌≡◌, zero, suc, ◌<◌, ◌≤◌, true, false, not, T, sym, refl, ap}
+use Rattle.std.proofs.Common.{◌∙◌, subst, inl, inr, eq-zero-or-pos, not-le_of_lt, T_not}
 use lib.Ieee.{Float, nan, inf, fin, binary64, fits, of_bits, to_bits, lt, eq, div}
 use lib.Ieee.Bits.{of_bits-to_bits}
 use Rattle.laws.specs.Truth.{yes, no}
@@ -68,7 +69,9 @@ no_root (fin s zero e) a b = absurd (T_not (eq (fin s zero e) origin) b (zero_eq
 no_root (fin true (suc m) e) a b = refl
 no_root (fin false (suc m) e) a b = absurd (T_not (lt origin (fin false (suc m) e)) a (positive_above m e))
 
-pub below_zero : (x : Float) → lt (of_bits binary64 0) x ≡ false → eq x (of_bits binary64 0) ≡ false → div binary64 (of_bits binary64 0) (of_bits binary64 0) ≡ root_of binary64 x
+pub below_zero :
+    (x : Float) → lt (of_bits binary64 0) x ≡ false → eq x (of_bits binary64 0) ≡ false
+    → div binary64 (of_bits binary64 0) (of_bits binary64 0) ≡ root_of binary64 x
 below_zero x a b = nan_is ∙ no_root x (rw origin_is at (no a)) (rw origin_is at (no b))
 
 -- a root by its pattern is the root

@@ -1,6 +1,8 @@
--- The comparisons order the numbers in a line: `≤` is transitive and total, `<` is `≤` the other way round denied, and a minus turns both round. NaN is in no comparison.
+-- The comparisons order the numbers in a line: `≤` is transitive and total, `<` is `≤` the other way round denied, and a
+-- minus turns both round. NaN is in no comparison.
 -- A finite value is the fraction (plus - minus) / down, so that a comparison is one of products. Rests on `Laws/Nan.antt`.
-use Rattle.std.specs.Prelude.{◌≡◌, ℕ, ◌+◌, ◌*◌, ◌<◌, ◌≤◌, Bool, true, false, not, ◌&&◌, ◌||◌, T, ◌==◌, nat_lt, refl, Float}
+use Rattle.std.specs.Prelude.{◌≡◌, ℕ, ◌+◌, ◌*◌, ◌<◌, ◌≤◌, Bool, true, false}
+use Rattle.std.specs.Prelude.{not, ◌&&◌, ◌||◌, T, ◌==◌, nat_lt, refl, Float}
 use Rattle.std.proofs.Common.{inl, inr, le_of_mul-le-mul_right, mul-le-mul_right, arith, ltb→lt, lt→ltb, eqb→eq, T_not}
 use Rattle.std.proofs.Math.Dec.{not_T}
 use Rattle.std.specs.Float.{nan, inf, fin}
@@ -26,10 +28,12 @@ abbrev pub Less : Bool → ℕ → Bool → ℕ → Type 0
 Less s a t b = plus s a + minus t b < plus t b + minus s a
 
 pub le_says : (s t : Bool) (a b : ℕ) → T (below s a t b || level s a t b) → AtMost s a t b
-le_says false false a b h = elim (or_split (nat_lt a b) (a == b && true) h) [ inl u ↦ omega (arith, ltb→lt a b u) | inr u ↦ omega (arith, eqb→eq a b (and_l (a == b) true u)) ]
+le_says false false a b h =
+    elim (or_split (nat_lt a b) (a == b && true) h) [ inl u ↦ omega (arith, ltb→lt a b u) | inr u ↦ omega (arith, eqb→eq a b (and_l (a == b) true u)) ]
 le_says false true a b h = omega (arith, eqb→eq a b (and_l (a == b) (a == 0) h), eqb→eq a 0 (and_r (a == b) (a == 0) h))
 le_says true false a b h = omega arith
-le_says true true a b h = elim (or_split (nat_lt b a) (a == b && true) h) [ inl u ↦ omega (arith, ltb→lt b a u) | inr u ↦ omega (arith, eqb→eq a b (and_l (a == b) true u)) ]
+le_says true true a b h =
+    elim (or_split (nat_lt b a) (a == b && true) h) [ inl u ↦ omega (arith, ltb→lt b a u) | inr u ↦ omega (arith, eqb→eq a b (and_l (a == b) true u)) ]
 
 pub lt_says : (s t : Bool) (a b : ℕ) → T (below s a t b) → Less s a t b
 lt_says false false a b h = omega (arith, ltb→lt a b h)
@@ -61,7 +65,8 @@ times false a k = (refl, omega arith)
 times true a k = (omega arith, refl)
 
 -- fractions (x - x') / p, (y - y') / q, (z - z') / r
-through : (x x' y y' z z' p q r : ℕ) → 0 < q → x * q + y' * p ≤ y * p + x' * q → y * r + z' * q ≤ z * q + y' * r → x * r + z' * p ≤ z * p + x' * r
+through :
+    (x x' y y' z z' p q r : ℕ) → 0 < q → x * q + y' * p ≤ y * p + x' * q → y * r + z' * q ≤ z * q + y' * r → x * r + z' * p ≤ z * p + x' * r
 through x x' y y' z z' p q r Q h k = le_of_mul-le-mul_right {k = q} (omega (arith, mul-le-mul_right r h, mul-le-mul_right p k)) Q
 
 chain : (s t u : Bool) (a b c p q r : ℕ) → 0 < q → AtMost s (a * q) t (b * p) → AtMost t (b * r) u (c * q) → AtMost s (a * r) u (c * p)
@@ -70,7 +75,8 @@ chain s t u a b c p q r Q h k =
       arith,
       times s a r,
       times u c p,
-      through (plus s a) (minus s a) (plus t b) (minus t b) (plus u c) (minus u c) p q r Q (omega (arith, times s a q, times t b p)) (omega (arith, times t b r, times u c q)),
+      through (plus s a) (minus s a) (plus t b) (minus t b) (plus u c) (minus u c) p q r Q
+          (omega (arith, times s a q, times t b p)) (omega (arith, times t b r, times u c q)),
     )
 
 pub le_trans : (x y z : Float) → T (le x y) → T (le y z) → T (le x z)
@@ -97,7 +103,8 @@ le_trans (fin s m e) (fin t n d) (inf true) h k = absurd k
 le_trans (fin s m e) (fin t n d) (inf false) h k = tt
 le_trans (fin s m e) (fin t n d) (fin u l g) h k =
     says_le s u (m * up e * down g) (l * up g * down e)
-    (chain s t u (m * up e) (n * up d) (l * up g) (down e) (down d) (down g) (down_pos d) (le_says s t (m * up e * down d) (n * up d * down e) h) (le_says t u (n * up d * down g) (l * up g * down d) k))
+    (chain s t u (m * up e) (n * up d) (l * up g) (down e) (down d) (down g) (down_pos d)
+    (le_says s t (m * up e * down d) (n * up d * down e) h) (le_says t u (n * up d * down g) (l * up g * down d) k))
 
 -- ---- `<` and `≤`
 pub lt_le : (x y : Float) → T (lt x y) → T (le x y)
@@ -137,7 +144,10 @@ not_lt_le (fin s m e) (inf false) p q h = tt
 not_lt_le (fin s m e) (fin t n d) p q h =
     let a = m * up e * down d in
     let b = n * up d * down e in
-    elim (lt_or_le (plus t b + minus s a) (plus s a + minus t b)) [ inl l ↦ absurd (T_not (below t b s a) h (says_lt t s b a l)) | inr g ↦ says_le s t a b g ]
+    elim (lt_or_le (plus t b + minus s a) (plus s a + minus t b)) [
+      | inl l ↦ absurd (T_not (below t b s a) h (says_lt t s b a l))
+      | inr g ↦ says_le s t a b g
+    ]
 
 pub le_self : (x : Float) → Number x → T (le x x)
 le_self x n = not_lt_le x x n n (not_T (lt x x) (λ (h : T (lt x x)). lt_not_le x x h (lt_le x x h)))

@@ -1,7 +1,10 @@
 -- `floor_root` is the whole part of the root, and `nearest_root` of a * 4 ^ k, for an a whose root has all the digits that the format keeps, is r * 2 ^ k,
 -- for the whole number r nearest to √a. Rests on the kit's count of digits.
-use Rattle.std.specs.Prelude.{◌≡◌, ℕ, zero, suc, ◌+◌, ◌-◌, ◌*◌, ◌/◌, ◌^◌, ◌<◌, ◌≤◌, Bool, true, false, cond, not, T, nat_le}
-use Rattle.std.proofs.Common.{sym, ap, ◌∙◌, subst, le_trans, le_of_eq, lt_of_lt_of_le, lt_of_le_of_lt, lt_of_not-le, not-le_of_lt, mul-le-mul, mul-le-mul_right, mul-lt-mul_of_pos_right, lt_of_mul-lt-mul_right, le_of_mul-le-mul_right, mul-pos, mul_assoc, pow-suc, zero-lt-suc, div-lt_iff_lt-mul, div-mul-le_self, arith, leb→le, lit≤, pow-add, pow_pos, pow_mono}
+use Rattle.std.specs.Prelude.{◌≡◌, ℕ, zero, suc, ◌+◌, ◌-◌, ◌*◌, ◌/◌, ◌^◌}
+use Rattle.std.specs.Prelude.{◌<◌, ◌≤◌, Bool, true, false, cond, not, T, nat_le}
+use Rattle.std.proofs.Common.{sym, ap, ◌∙◌, subst, le_trans, le_of_eq, lt_of_lt_of_le, lt_of_le_of_lt, lt_of_not-le, not-le_of_lt, mul-le-mul}
+use Rattle.std.proofs.Common.{mul-le-mul_right, mul-lt-mul_of_pos_right, lt_of_mul-lt-mul_right, le_of_mul-le-mul_right, mul-pos, mul_assoc, pow-suc}
+use Rattle.std.proofs.Common.{zero-lt-suc, div-lt_iff_lt-mul, div-mul-le_self, arith, leb→le, lit≤, pow-add, pow_pos, pow_mono}
 use Prim.Native.Nat.{zero-le, compare, Ordering}
 use Rattle.std.proofs.Math.Nat.{eq_of_mul-eq-mul_right, mul-mul-mul_comm, pow-le-pow_left, lt-div-mul-add}
 use Rattle.std.proofs.Math.Dec.{nleb→lt}
@@ -54,7 +57,8 @@ rounded Ordering.gt a q r f n h =
 -- ---- the whole part of √(a * (u * u)), cut to multiples of u, is that of √a
 pub cut : (a u w : ℕ) → 0 < u → Floor (a * (u * u)) w → Floor a (w / u)
 cut a u w U f = (
-  le_of_mul-le-mul_right (le_trans (le_of_eq (mul-mul-mul_comm (w / u) (w / u) u u)) (le_trans (mul-le-mul (div-mul-le_self w u) (div-mul-le_self w u)) f.0)) (mul-pos U U),
+  le_of_mul-le-mul_right
+      (le_trans (le_of_eq (mul-mul-mul_comm (w / u) (w / u) u u)) (le_trans (mul-le-mul (div-mul-le_self w u) (div-mul-le_self w u)) f.0)) (mul-pos U U),
   lt_of_mul-lt-mul_right (u * u) (lt_of_lt_of_le f.1 (le_trans (mul-le-mul next next) (le_of_eq (mul-mul-mul_comm (w / u + 1) u (w / u + 1) u)))),
 )
   where
@@ -86,17 +90,22 @@ cancel Ordering.lt a b u U h = lt_of_mul-lt-mul_right u h
 cancel Ordering.eq a b u U h = eq_of_mul-eq-mul_right u U a b h
 cancel Ordering.gt a b u U h = lt_of_mul-lt-mul_right u h
 
-pub nearest_at : (f : Format) (a k r : ℕ) → 2 ^ (prec f - 1) * 2 ^ (prec f - 1) ≤ a → a < 2 ^ prec f * 2 ^ prec f → Near a r → nearest_root f (a * (2 ^ k * 2 ^ k)) ≡ units f false r k
+pub nearest_at :
+    (f : Format) (a k r : ℕ) → 2 ^ (prec f - 1) * 2 ^ (prec f - 1) ≤ a → a < 2 ^ prec f * 2 ^ prec f → Near a r
+    → nearest_root f (a * (2 ^ k * 2 ^ k)) ≡ units f false r k
 unfolding nearest_root
 nearest_at f a k r l h n =
     let N = a * (2 ^ k * 2 ^ k) in
     let w = floor_root (size N) N in
     let q = w / 2 ^ k in
     let o = compare (4 * N) (mid q k) in
-    let c : Says (4 * a * (2 ^ k * 2 ^ k)) (mid q k) o = subst (λ (x : ℕ). Says x (mid q k) o) (sym (mul_assoc 4 a (2 ^ k * 2 ^ k))) (says (4 * N) (mid q k)) in
-    ap (λ (j : ℕ). units f false (nearest (w / 2 ^ j) (compare (4 * N) (mid (w / 2 ^ j) j))) j) (drops (prec f) a k w (two-le_pos (prec f) (two f)) l h (whole_part N))
+    let c : Says (4 * a * (2 ^ k * 2 ^ k)) (mid q k) o =
+    subst (λ (x : ℕ). Says x (mid q k) o) (sym (mul_assoc 4 a (2 ^ k * 2 ^ k))) (says (4 * N) (mid q k)) in
+    ap (λ (j : ℕ). units f false (nearest (w / 2 ^ j) (compare (4 * N) (mid (w / 2 ^ j) j))) j)
+    (drops (prec f) a k w (two-le_pos (prec f) (two f)) l h (whole_part N))
     ∙ ap (λ (x : ℕ). units f false x k)
-    (rounded o a q r (cut a (2 ^ k) w (pow_pos k) (whole_part N)) n (cancel o (4 * a) ((2 * q + 1) * (2 * q + 1)) (2 ^ k * 2 ^ k) (mul-pos (pow_pos k) (pow_pos k)) c))
+    (rounded o a q r (cut a (2 ^ k) w (pow_pos k) (whole_part N)) n
+    (cancel o (4 * a) ((2 * q + 1) * (2 * q + 1)) (2 ^ k * 2 ^ k) (mul-pos (pow_pos k) (pow_pos k)) c))
 
 -- ---- how large such an r is
 pub near_le : (a r b : ℕ) → a < b * b → Near a r → r ≤ b

@@ -1,6 +1,8 @@
--- The least of roots is the root of the least, as data and not by value alone: of two by the test that a program makes, by `min`, and of any number one after another.
+-- The least of roots is the root of the least, as data and not by value alone: of two by the test that a program makes, by
+-- `min`, and of any number one after another.
 -- The values are those of `Laws/Square.antt`: a NaN, -0 and the infinity are among them. Rests on `Laws/Monotone.antt` and `Laws/Same.antt`.
-use Rattle.std.specs.Prelude.{◌≡◌, ℕ, zero, suc, ◌*◌, ◌%◌, ◌^◌, ◌≤◌, Bool, true, false, cond, not, ◌&&◌, T, ltb, List, [], ◌∷◌, ℤ, negsuc, ◌==◌, nat_le, nat_lt, refl, Float}
+use Rattle.std.specs.Prelude.{◌≡◌, ℕ, zero, suc, ◌*◌, ◌%◌, ◌^◌, ◌≤◌, Bool, true, false, cond, not}
+use Rattle.std.specs.Prelude.{◌&&◌, T, ltb, List, [], ◌∷◌, ℤ, negsuc, ◌==◌, nat_le, nat_lt, refl, Float}
 use Rattle.std.proofs.Common.{sym, subst, inl, mul-le-mul, mul-pos, zero-lt-suc, leb→le, lt→ltb, T_not}
 use Rattle.std.proofs.Math.Logic.{inr}
 use Rattle.std.proofs.Math.Dec.{not_T}
@@ -45,8 +47,12 @@ down_le f m e t =
 
 least_le : (f : Format) (m : ℕ) (e : ℤ) → T (fits f (fin false (suc m) e)) → T (le (least f) (fin false (suc m) e))
 unfolding least
-least_le binary32 m e t = cross→le (least binary32) (fin false (suc m) e) tt (lt→ltb 0 (suc m) (zero-lt-suc m)) (mul-le-mul (mul-pos (zero-lt-suc m) (up_pos e)) (down_le binary32 m e t))
-least_le binary64 m e t = cross→le (least binary64) (fin false (suc m) e) tt (lt→ltb 0 (suc m) (zero-lt-suc m)) (mul-le-mul (mul-pos (zero-lt-suc m) (up_pos e)) (down_le binary64 m e t))
+least_le binary32 m e t =
+    cross→le (least binary32) (fin false (suc m) e) tt (lt→ltb 0 (suc m) (zero-lt-suc m))
+    (mul-le-mul (mul-pos (zero-lt-suc m) (up_pos e)) (down_le binary32 m e t))
+least_le binary64 m e t =
+    cross→le (least binary64) (fin false (suc m) e) tt (lt→ltb 0 (suc m) (zero-lt-suc m))
+    (mul-le-mul (mul-pos (zero-lt-suc m) (up_pos e)) (down_le binary64 m e t))
 
 pub root_positive : (f : Format) (x : Float) → T (fits f x) → T (lt origin x) → T (lt origin (root_of f x))
 unfolding root_of lt
@@ -55,7 +61,9 @@ root_positive f (inf true) t h = absurd h
 root_positive f (inf false) t h = tt
 root_positive f (fin true m e) t h = absurd h
 root_positive f (fin false zero e) t h = absurd (zero_not_above false e h)
-root_positive f (fin false (suc m) e) t h = lt_le_trans origin (root_of f (least f)) (root_of f (fin false (suc m) e)) (least_root f) (root_of_mono f (least f) (fin false (suc m) e) (least_above f) (least_le f m e t))
+root_positive f (fin false (suc m) e) t h =
+    lt_le_trans origin (root_of f (least f)) (root_of f (fin false (suc m) e)) (least_root f)
+    (root_of_mono f (least f) (fin false (suc m) e) (least_above f) (least_le f m e t))
 
 -- ---- of two values that are at least zero
 zero_not_positive : (x : Float) → Zero x → T (lt origin x) → ⊥
@@ -71,7 +79,8 @@ module _ (f : Format) (x y : Float) (p : T (fits f x)) (q : T (fits f y)) (o : T
   -- y < x, and the test finds no difference of the roots: they are the same
   tied : T (lt y x) → T (not (lt (root_of f y) (root_of f x))) → root_of f x ≡ root_of f y
   tied h n =
-      elim (same f (root_of f y) (root_of f x) (root_of_fits f y q) (root_of_fits f x p) (le_eq (root_of f y) (root_of f x) (root_of_mono f y x r (lt_le y x h)) n)) [
+      elim (same f (root_of f y) (root_of f x) (root_of_fits f y q) (root_of_fits f x p)
+      (le_eq (root_of f y) (root_of f x) (root_of_mono f y x r (lt_le y x h)) n)) [
         | inl e ↦ sym e
         | inr z ↦ absurd (zero_not_positive (root_of f x) z.1 (root_positive f x p (le_lt_trans origin y x r h)))
       ]
@@ -82,7 +91,8 @@ module _ (f : Format) (x y : Float) (p : T (fits f x)) (q : T (fits f y)) (o : T
       go : (b c : Bool) → lt y x ≡ b → lt (root_of f y) (root_of f x) ≡ c → cond c (root_of f y) (root_of f x) ≡ root_of f (cond b y x)
       go true true e i = refl
       go true false e i = tied (yes e) (no i)
-      go false true e i = absurd (lt_not_le (root_of f y) (root_of f x) (yes i) (root_of_mono f x y o (not_lt_le x y (le_number origin x o).1 (le_number origin y r).1 (no e))))
+      go false true e i =
+          absurd (lt_not_le (root_of f y) (root_of f x) (yes i) (root_of_mono f x y o (not_lt_le x y (le_number origin x o).1 (le_number origin y r).1 (no e))))
       go false false e i = refl
 
 -- ---- of values that are not below zero

@@ -1,7 +1,9 @@
 -- The root keeps the order: of two values, the smaller at least zero (-0 included), the larger has a root that is no smaller.
 -- Rests on `Laws/Floor.antt` and `Laws/Compare.antt`.
-use Rattle.std.proofs.Common.{sym, subst, inl, inr, le_refl, le_of_eq, lt_of_le_of_lt, not-le_of_lt, eq-or-lt_of_le, mul-le-mul_left, mul-le-mul_right, mul_right_comm, zero-lt-suc, le-div_iff_mul-le, arith, ltb→lt, lt→ltb, nltb→le, pow-add, pow_pos, pow_mono}
-use Rattle.std.specs.Prelude.{ℕ, zero, suc, ◌+◌, ◌-◌, ◌*◌, ◌/◌, ◌%◌, ◌^◌, ◌<◌, ◌≤◌, Bool, true, false, cond, not, T, ℤ, nat_lt, Float}
+use Rattle.std.proofs.Common.{sym, subst, inl, inr, le_refl, le_of_eq, lt_of_le_of_lt, not-le_of_lt, eq-or-lt_of_le, mul-le-mul_left, mul-le-mul_right}
+use Rattle.std.proofs.Common.{mul_right_comm, zero-lt-suc, le-div_iff_mul-le, arith, ltb→lt, lt→ltb, nltb→le, pow-add, pow_pos, pow_mono}
+use Rattle.std.specs.Prelude.{ℕ, zero, suc, ◌+◌, ◌-◌, ◌*◌, ◌/◌, ◌%◌, ◌^◌, ◌<◌}
+use Rattle.std.specs.Prelude.{◌≤◌, Bool, true, false, cond, not, T, ℤ, nat_lt, Float}
 use Prim.Native.Nat.{compare, Ordering}
 use Rattle.std.proofs.Math.Nat as Nat
 use Rattle.std.proofs.Math.Pow.{shr_mono}
@@ -43,12 +45,14 @@ same_drop n n' w w' k h g =
       | inl e ↦
           let q = w' / 2 ^ k in
           subst (λ (q : ℕ). nearest q (compare (4 * n) (mid q k)) ≤ kept n' w' k) (sym e)
-          (same_step q (compare (4 * n) (mid q k)) (compare (4 * n') (mid q k)) (4 * n) (4 * n') (mid q k) (mul-le-mul_left 4 h) (says (4 * n) (mid q k)) (says (4 * n') (mid q k)))
+          (same_step q (compare (4 * n) (mid q k)) (compare (4 * n') (mid q k)) (4 * n)
+          (4 * n') (mid q k) (mul-le-mul_left 4 h) (says (4 * n) (mid q k)) (says (4 * n') (mid q k)))
       | inr l ↦ Nat.le_trans (nearest-le (w / 2 ^ k) (compare (4 * n) (mid (w / 2 ^ k) k))) (Nat.le_trans l (kept_ge n' w' k))
     ]
 
 -- either both drop as many digits, or a power of two lies between the two results
-grid_mono : (p n n' w w' : ℕ) → 0 < p → n ≤ n' → w ≤ w' → kept n w (size w - p) * 2 ^ (size w - p) ≤ kept n' w' (size w' - p) * 2 ^ (size w' - p)
+grid_mono :
+    (p n n' w w' : ℕ) → 0 < p → n ≤ n' → w ≤ w' → kept n w (size w - p) * 2 ^ (size w - p) ≤ kept n' w' (size w' - p) * 2 ^ (size w' - p)
 grid_mono p n n' w w' P h g =
     let j = size w - p in
     let k = size w' - p in
@@ -60,9 +64,12 @@ grid_mono p n n' w w' P h g =
           let room : p + j ≤ p - 1 + k = omega arith in
           let used : p - 1 + k < size w' = omega arith in
           let most : kept n w j ≤ 2 ^ p = Nat.le_trans (nearest-le (w / 2 ^ j) (compare (4 * n) (mid (w / 2 ^ j) j))) (kept-lt p w) in
-          let least : 2 ^ (p - 1) ≤ kept n' w' k = Nat.le_trans ((le-div_iff_mul-le (pow_pos k)).1 (Nat.le_trans (le_of_eq (sym (pow-add 2 (p - 1) k))) (size_reaches w' (p - 1 + k) used))) (kept_ge n' w' k) in
+          let least : 2 ^ (p - 1) ≤ kept n' w' k =
+          Nat.le_trans
+          ((le-div_iff_mul-le (pow_pos k)).1 (Nat.le_trans (le_of_eq (sym (pow-add 2 (p - 1) k))) (size_reaches w' (p - 1 + k) used))) (kept_ge n' w' k) in
           Nat.le_trans (mul-le-mul_right (2 ^ j) most)
-          (Nat.le_trans (le_of_eq (sym (pow-add 2 p j))) (Nat.le_trans (pow_mono room) (Nat.le_trans (le_of_eq (pow-add 2 (p - 1) k)) (mul-le-mul_right (2 ^ k) least))))
+          (Nat.le_trans (le_of_eq (sym (pow-add 2 p j)))
+          (Nat.le_trans (pow_mono room) (Nat.le_trans (le_of_eq (pow-add 2 (p - 1) k)) (mul-le-mul_right (2 ^ k) least))))
     ]
 
 -- ---- `units` keeps the order
@@ -78,9 +85,12 @@ units_mono f q j r k h = go (nat_lt (q * 2 ^ j) top) (nat_lt (r * 2 ^ k) top) (n
     top : ℕ
     top = 2 ^ (low f + suc (emax f))
 
-    go : (x y : Bool) → (T (not x) → top ≤ q * 2 ^ j) → (T y → r * 2 ^ k < top) → T (le (cond x (odd (suc (prec f)) false q j (low f)) (inf false)) (cond y (odd (suc (prec f)) false r k (low f)) (inf false)))
+    go :
+        (x y : Bool) → (T (not x) → top ≤ q * 2 ^ j) → (T y → r * 2 ^ k < top)
+        → T (le (cond x (odd (suc (prec f)) false q j (low f)) (inf false)) (cond y (odd (suc (prec f)) false r k (low f)) (inf false)))
     go true true a b =
-        le_of_values (odd (suc (prec f)) false q j (low f)) (odd (suc (prec f)) false r k (low f)) (q * 2 ^ j) (2 ^ low f) (r * 2 ^ k) (2 ^ low f) (pow_pos (low f)) (pow_pos (low f))
+        le_of_values (odd (suc (prec f)) false q j (low f)) (odd (suc (prec f)) false r k (low f))
+        (q * 2 ^ j) (2 ^ low f) (r * 2 ^ k) (2 ^ low f) (pow_pos (low f)) (pow_pos (low f))
         (odd_sign (suc (prec f)) false q j (low f)) (odd_sign (suc (prec f)) false r k (low f)) (mul-le-mul_right (2 ^ low f) h)
     go true false a b = le_inf (suc (prec f)) q j (low f)
     go false true a b = absurd (not-le_of_lt (lt_of_le_of_lt h (b tt)) (a tt))
@@ -126,7 +136,8 @@ is_positive : (m : ℕ) (e : ℤ) → T (positive (fin false (suc m) e))
 is_positive m e = lt→ltb 0 (suc m) (zero-lt-suc m)
 
 scaled_mono : (l a b c d : ℕ) → 0 < b → 0 < d → a * d ≤ c * b → a * l / b ≤ c * l / d
-scaled_mono l a b c d B D h = div_mono (a * l) b (c * l) d B D (Nat.le_trans (le_of_eq (mul_right_comm a l d)) (Nat.le_trans (mul-le-mul_right l h) (le_of_eq (mul_right_comm c b l))))
+scaled_mono l a b c d B D h =
+    div_mono (a * l) b (c * l) d B D (Nat.le_trans (le_of_eq (mul_right_comm a l d)) (Nat.le_trans (mul-le-mul_right l h) (le_of_eq (mul_right_comm c b l))))
 
 plain_le_inf : (x : Float) → Plain x → T (le x (inf false))
 unfolding le
@@ -135,7 +146,8 @@ plain_le_inf (inf true) p = absurd p
 plain_le_inf (inf false) p = tt
 plain_le_inf (fin s m e) p = tt
 
-positive_mono : (f : Format) (m : ℕ) (e : ℤ) (y : Float) → T (above y) → T (le (fin false (suc m) e) y) → T (le (root_of f (fin false (suc m) e)) (root_of f y))
+positive_mono :
+    (f : Format) (m : ℕ) (e : ℤ) (y : Float) → T (above y) → T (le (fin false (suc m) e) y) → T (le (root_of f (fin false (suc m) e)) (root_of f y))
 unfolding root_of
 positive_mono f m e nan a h = absurd a
 positive_mono f m e (inf true) a h = absurd a
@@ -147,7 +159,8 @@ positive_mono f m e (fin false zero d) a h = absurd a
 positive_mono f m e (fin false (suc n) d) a h =
     let l = 2 ^ low f * 2 ^ low f in
     nearest_mono f (suc m * up e * l / down e) (suc n * up d * l / down d)
-    (scaled_mono l (suc m * up e) (down e) (suc n * up d) (down d) (down_pos e) (down_pos d) (le→cross (fin false (suc m) e) (fin false (suc n) d) (is_positive m e) (is_positive n d) h))
+    (scaled_mono l (suc m * up e) (down e) (suc n * up d) (down d) (down_pos e) (down_pos d)
+    (le→cross (fin false (suc m) e) (fin false (suc n) d) (is_positive m e) (is_positive n d) h))
 
 -- ---- of any two values, the smaller at least zero
 from_zero : (f : Format) (s : Bool) (e : ℤ) (y : Float) → T (le (fin s zero e) y) → T (le (fin s zero e) (root_of f y))

@@ -32,6 +32,12 @@ nan_or nan = inl refl
 nan_or (inf s) = inr tt
 nan_or (fin s m e) = inr tt
 
+pub is_the_nan : (x : Float) → is_nan x ≡ true → x ≡ nan
+unfolding is_nan
+is_the_nan nan h = refl
+is_the_nan (inf s) h = cc
+is_the_nan (fin s m e) h = cc
+
 pub lt_nan : (x : Float) → (lt x nan ≡ false) × (lt nan x ≡ false)
 unfolding lt
 lt_nan nan = (refl, refl)

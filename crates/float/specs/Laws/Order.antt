@@ -51,9 +51,12 @@ module _ (a b : Float) where
 
 -- ---- clamp
 module _ (x low high : Float) where
-  pub clamp_elim : (P : Float → Type 0) → (T (lt x low) → P low) → (T (lt high x) → P high) → (T (not (lt x low)) → T (not (lt high x)) → P x) → P (clamp x low high)
+  pub clamp_elim :
+      (P : Float → Type 0) → (T (lt x low) → P low) → (T (lt high x) → P high) → (T (not (lt x low)) → T (not (lt high x)) → P x)
+      → P (clamp x low high)
   unfolding clamp
-  clamp_elim P f g h = picked P (lt x low) low (cond (lt high x) high x) (λ l. f (yes l)) (λ l. picked P (lt high x) high x (λ r. g (yes r)) (λ r. h (no l) (no r)))
+  clamp_elim P f g h =
+      picked P (lt x low) low (cond (lt high x) high x) (λ l. f (yes l)) (λ l. picked P (lt high x) high x (λ r. g (yes r)) (λ r. h (no l) (no r)))
 
   pub clamp_fits : T (fits binary64 x) → T (fits binary64 low) → T (fits binary64 high) → T (fits binary64 (clamp x low high))
   clamp_fits p q r = clamp_elim (λ z. T (fits binary64 z)) (λ l. q) (λ l. r) (λ l g. p)

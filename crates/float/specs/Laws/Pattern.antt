@@ -1,7 +1,10 @@
 -- Bit patterns: the sign stands in front of the pattern of the value without its sign, and a number's pattern is at most the infinity's.
 -- Rests on the kit's account of patterns.
-use Rattle.std.specs.Prelude.{◌≡◌, ℕ, zero, suc, ◌+◌, ◌-◌, ◌*◌, ◌/◌, ◌%◌, ◌^◌, ◌<◌, ◌≤◌, Bool, true, false, cond, not, ◌&&◌, T, ℤ, ◌==◌, from_bits, nat_le, nat_lt, refl, Float}
-use Rattle.std.proofs.Common.{sym, ap, ◌∙◌, subst, inl, inr, le_trans, le_of_eq, lt_of_lt_of_le, lt_of_le_of_lt, not-le_of_lt, eq-or-lt_of_le, mul-pos, mul_right_comm, zero-mul, mul-le-mul_right, mul-lt-mul_of_pos_right, div-lt_iff_lt-mul, le-div_iff_mul-le, arith, ltb→lt, pow-add, pow_pos}
+use Rattle.std.specs.Prelude.{◌≡◌, ℕ, zero, suc, ◌+◌, ◌-◌, ◌*◌, ◌/◌, ◌%◌, ◌^◌, ◌<◌, ◌≤◌, Bool}
+use Rattle.std.specs.Prelude.{true, false, cond, not, ◌&&◌, T, ℤ, ◌==◌, from_bits, nat_le, nat_lt, refl, Float}
+use Rattle.std.proofs.Common.{sym, ap, ◌∙◌, subst, inl, inr, le_trans, le_of_eq, lt_of_lt_of_le, lt_of_le_of_lt}
+use Rattle.std.proofs.Common.{not-le_of_lt, eq-or-lt_of_le, mul-pos, mul_right_comm, zero-mul, mul-le-mul_right}
+use Rattle.std.proofs.Common.{mul-lt-mul_of_pos_right, div-lt_iff_lt-mul, le-div_iff_mul-le, arith, ltb→lt, pow-add, pow_pos}
 use Rattle.std.proofs.Math.Nat.{le_refl, le_of_lt}
 use Rattle.std.proofs.Math.Dec.{not_T}
 use Rattle.std.proofs.Math.Pow.{shr_mono}
@@ -24,7 +27,9 @@ Normal x = Number x × (2 ^ 52 ≤ to_bits binary64 x) × (to_bits binary64 x < 
 bound : (m : ℕ) (e : ℤ) → T (fits binary64 (fin false m e)) → m * up e < 2 ^ 1024 * down e
 unfolding fits
 bound zero e t = lt_of_le_of_lt (le_of_eq (zero-mul (up e))) (mul-pos (pow_pos 1024) (down_pos e))
-bound (suc m) e t = ltb→lt (suc m * up e) (2 ^ 1024 * down e) (and_r (suc m % 2 == 1 && nat_lt (suc m) (2 ^ 53) && nat_le (down e) (2 ^ 1074)) (nat_lt (suc m * up e) (2 ^ 1024 * down e)) t)
+bound (suc m) e t =
+    ltb→lt (suc m * up e) (2 ^ 1024 * down e)
+    (and_r (suc m % 2 == 1 && nat_lt (suc m) (2 ^ 53) && nat_le (down e) (2 ^ 1074)) (nat_lt (suc m * up e) (2 ^ 1024 * down e)) t)
 
 in_units : (m : ℕ) (e : ℤ) → T (fits binary64 (fin false m e)) → m * up e * 2 ^ 1074 / down e < 2 ^ 2098
 in_units m e t =
@@ -82,7 +87,9 @@ abs_pattern x h n = rw (pattern_sign x) (cleared (negative x) (to_bits binary64 
 
 -- it is no NaN's
 pub no_nan : (n : ℕ) → n % 2 ^ 63 ≤ 0x7ff0_0000_0000_0000 → T (not (nan_bits binary64 n))
-no_nan n h = not_T (nan_bits binary64 n) (λ (t : T (nan_bits binary64 n)). not-le_of_lt (ltb→lt (2047 * 2 ^ 52) (n % 2 ^ 63) (subst T (nan_bits_above binary64 n) t)) h)
+no_nan n h =
+    not_T (nan_bits binary64 n)
+    (λ (t : T (nan_bits binary64 n)). not-le_of_lt (ltb→lt (2047 * 2 ^ 52) (n % 2 ^ 63) (subst T (nan_bits_above binary64 n) t)) h)
 
 pub own_pattern : (x : Float) → T (fits binary64 x) → Number x → T (not (nan_bits binary64 (to_bits binary64 x)))
 own_pattern x h n = no_nan (to_bits binary64 x) (rw (abs_pattern x h n) (pattern_most x h n))
@@ -118,11 +125,14 @@ of_units_mono n n' h =
           omega (arith, kept-lt 53 n)
     ]
 
-finite_le : (m : ℕ) (e : ℤ) (n : ℕ) (d : ℤ) → m * up e * down d ≤ n * up d * down e → to_bits binary64 (fin false m e) ≤ to_bits binary64 (fin false n d)
+finite_le :
+    (m : ℕ) (e : ℤ) (n : ℕ) (d : ℤ) → m * up e * down d ≤ n * up d * down e
+    → to_bits binary64 (fin false m e) ≤ to_bits binary64 (fin false n d)
 finite_le m e n d h =
     rw (pattern_units m e, pattern_units n d)
     (of_units_mono (m * up e * 2 ^ 1074 / down e) (n * up d * 2 ^ 1074 / down d)
-    (div_mono (m * up e * 2 ^ 1074) (down e) (n * up d * 2 ^ 1074) (down d) (down_pos e) (down_pos d) (scaled (m * up e) (n * up d) (down e) (down d) (2 ^ 1074) h)))
+    (div_mono (m * up e * 2 ^ 1074) (down e) (n * up d * 2 ^ 1074) (down d) (down_pos e)
+    (down_pos d) (scaled (m * up e) (n * up d) (down e) (down d) (2 ^ 1074) h)))
   where
     scaled : (a b c d l : ℕ) → a * d ≤ b * c → a * l * d ≤ b * l * c
     scaled a b c d l h = omega (arith, mul-le-mul_right l h)

@@ -15,14 +15,18 @@ Zero nan = ⊥
 Zero (inf s) = ⊥
 Zero (fin s m e) = m ≡ 0
 
-same_value : (f : Format) (s : Bool) (m : ℕ) (e : ℤ) (n : ℕ) (d : ℤ) → T (fits f (fin s m e)) → T (fits f (fin s n d)) → m * up e * down d ≡ n * up d * down e → fin s m e ≡ fin s n d
+same_value :
+    (f : Format) (s : Bool) (m : ℕ) (e : ℤ) (n : ℕ) (d : ℤ) → T (fits f (fin s m e)) → T (fits f (fin s n d))
+    → m * up e * down d ≡ n * up d * down e → fin s m e ≡ fin s n d
 same_value f s m e n d p q h = sym (of_bits-to_bits f (fin s m e) p) ∙ ap (of_bits f) (patterns s) ∙ of_bits-to_bits f (fin s n d) q
   where
     l : ℕ
     l = 2 ^ low f
 
     in_units : m * up e * l / down e ≡ n * up d * l / down d
-    in_units = div_same (m * up e * l) (down e) (n * up d * l) (down d) (down_pos e) (down_pos d) (mul_right_comm (m * up e) l (down d) ∙ ap (λ (x : ℕ). x * l) h ∙ mul_right_comm (n * up d) (down e) l)
+    in_units =
+        div_same (m * up e * l) (down e) (n * up d * l) (down d) (down_pos e) (down_pos d)
+        (mul_right_comm (m * up e) l (down d) ∙ ap (λ (x : ℕ). x * l) h ∙ mul_right_comm (n * up d) (down e) l)
 
     patterns : (s : Bool) → to_bits f (fin s m e) ≡ to_bits f (fin s n d)
     patterns s = unfold to_bits in rw in_units refl
@@ -50,7 +54,9 @@ same f (inf false) (inf false) p q h = inl refl
 same f (inf s) (fin t n d) p q h = absurd h
 same f (fin s m e) nan p q h = absurd h
 same f (fin s m e) (inf t) p q h = absurd h
-same f (fin true m e) (fin true n d) p q h = inl (same_value f true m e n d p q (eqb→eq (m * up e * down d) (n * up d * down e) (and_l (m * up e * down d == n * up d * down e) true h)))
-same f (fin false m e) (fin false n d) p q h = inl (same_value f false m e n d p q (eqb→eq (m * up e * down d) (n * up d * down e) (and_l (m * up e * down d == n * up d * down e) true h)))
+same f (fin true m e) (fin true n d) p q h =
+    inl (same_value f true m e n d p q (eqb→eq (m * up e * down d) (n * up d * down e) (and_l (m * up e * down d == n * up d * down e) true h)))
+same f (fin false m e) (fin false n d) p q h =
+    inl (same_value f false m e n d p q (eqb→eq (m * up e * down d) (n * up d * down e) (and_l (m * up e * down d == n * up d * down e) true h)))
 same f (fin true m e) (fin false n d) p q h = inr (both m e n d h)
 same f (fin false m e) (fin true n d) p q h = inr (both m e n d h)

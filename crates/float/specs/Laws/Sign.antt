@@ -19,7 +19,8 @@ neg_sign (fin s m e) n = refl
 
 pub turned_pattern :
     (x : Float) (b : Bool) → T (fits binary64 x) → Number x → (to_bits binary64 x + cond b 0 (2 ^ 63)) % 2 ^ 64 ≡ to_bits binary64 (cond b x (neg x))
-turned_pattern x false f n = rw (pattern_sign x, pattern_sign (neg x), abs_neg x, neg_sign x n) (turn (negative x) (to_bits binary64 (abs x)) (pattern_most x f n))
+turned_pattern x false f n =
+    rw (pattern_sign x, pattern_sign (neg x), abs_neg x, neg_sign x n) (turn (negative x) (to_bits binary64 (abs x)) (pattern_most x f n))
   where
     turn : (s : Bool) (t : ℕ) → t ≤ 0x7ff0_0000_0000_0000 → (cond s (2 ^ 63) 0 + t + 2 ^ 63) % 2 ^ 64 ≡ cond (not s) (2 ^ 63) 0 + t
     turn true t h = omega arith

@@ -45,7 +45,8 @@ zero_is false = refl
 
 zero_rounded : (s : Bool) (a c : ℕ) → 0 < c → a ≡ 0 → T (not (lt (round binary64 s a c) origin))
 zero_rounded s a c C z =
-    rw (round_same binary64 s a c 0 1 C (zero-lt-suc 0) (omega (arith, ap (λ (n : ℕ). n * c) z)), zero_is s) (not_T (lt (fin s 0 (pos 0)) origin) (zero_not_below s (pos 0)))
+    rw (round_same binary64 s a c 0 1 C (zero-lt-suc 0) (omega (arith, ap (λ (n : ℕ). n * c) z)), zero_is s)
+    (not_T (lt (fin s 0 (pos 0)) origin) (zero_not_below s (pos 0)))
 
 -- ---- x * x
 times_not_below : (x : Float) → T (not (lt (x *ᶠ x) origin))
@@ -61,7 +62,8 @@ times_self x = record { fit = mul-fits binary64 x x; not_below = times_not_below
 
 -- ---- x + y
 -- of two signs, one is a zero's
-zero_and : (a b c : ℕ) → 0 < c → a ≡ 0 → T (not (lt (cond (nat_lt a b) (round binary64 false (b - a) c) (round binary64 (nat_lt b a) (a - b) c)) origin))
+zero_and :
+    (a b c : ℕ) → 0 < c → a ≡ 0 → T (not (lt (cond (nat_lt a b) (round binary64 false (b - a) c) (round binary64 (nat_lt b a) (a - b) c)) origin))
 zero_and a b c C z = go (nat_lt a b)
   where
     go : (t : Bool) → T (not (lt (cond t (round binary64 false (b - a) c) (round binary64 (nat_lt b a) (a - b) c)) origin))
@@ -90,9 +92,12 @@ plus_not_below (fin false m e) (fin false n d) h k = rounded (m * up e * down d 
 plus_not_below (fin true (suc m) e) (fin t n d) h k = absurd (T_not (lt (fin true (suc m) e) origin) h (negative_below m e))
 plus_not_below (fin true zero e) (fin true (suc n) d) h k = absurd (T_not (lt (fin true (suc n) d) origin) k (negative_below n d))
 plus_not_below (fin false m e) (fin true (suc n) d) h k = absurd (T_not (lt (fin true (suc n) d) origin) k (negative_below n d))
-plus_not_below (fin true zero e) (fin true zero d) h k = zero_rounded true (0 * up e * down d + 0 * up d * down e) (down e * down d) (mul-pos (down_pos e) (down_pos d)) (omega arith)
-plus_not_below (fin true zero e) (fin false n d) h k = zero_and (0 * up e * down d) (n * up d * down e) (down e * down d) (mul-pos (down_pos e) (down_pos d)) (omega arith)
-plus_not_below (fin false m e) (fin true zero d) h k = and_zero (m * up e * down d) (0 * up d * down e) (down e * down d) (mul-pos (down_pos e) (down_pos d)) (omega arith)
+plus_not_below (fin true zero e) (fin true zero d) h k =
+    zero_rounded true (0 * up e * down d + 0 * up d * down e) (down e * down d) (mul-pos (down_pos e) (down_pos d)) (omega arith)
+plus_not_below (fin true zero e) (fin false n d) h k =
+    zero_and (0 * up e * down d) (n * up d * down e) (down e * down d) (mul-pos (down_pos e) (down_pos d)) (omega arith)
+plus_not_below (fin false m e) (fin true zero d) h k =
+    and_zero (m * up e * down d) (0 * up d * down e) (down e * down d) (mul-pos (down_pos e) (down_pos d)) (omega arith)
 
 pub plus : (x y : Float) → Square x → Square y → Square (x +ᶠ y)
 plus x y s t = record { fit = add-fits binary64 x y; not_below = plus_not_below x y s.not_below t.not_below }

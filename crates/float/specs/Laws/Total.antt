@@ -1,6 +1,7 @@
 -- The total order is a linear one on the values that fit: it goes as `<` does where that tells two numbers apart, -0 stands right before +0, and NaN is last.
 -- Rests on `Laws/Pattern.antt`.
-use Rattle.std.specs.Prelude.{◌≡◌, ℕ, ◌+◌, ◌-◌, ◌^◌, ◌<◌, ◌≤◌, Bool, true, false, cond, T, ◌⊎◌, ◌≢◌, nat_le, refl, Float}
+use Rattle.std.specs.Prelude.{◌≡◌, ℕ, ◌+◌, ◌-◌, ◌^◌, ◌<◌, ◌≤◌, Bool, true}
+use Rattle.std.specs.Prelude.{false, cond, T, ◌⊎◌, ◌≢◌, nat_le, refl, Float}
 use Rattle.std.proofs.Common.{ap, inl, inr, true≢false, arith, ltb→lt, lt→ltb, le-leb, leb-true, leb-false}
 use Rattle.std.proofs.lemmas.Bool.{false≢true, lt-leb}
 use Prim.Native.Nat.{Ordering}
@@ -23,11 +24,15 @@ unfolding total_key to_bits
 nan_key = refl
 
 -- ---- the key of a number: above 2 ^ 63 by its size where it has no minus, and below it otherwise
-key_of : (s : Bool) (t : ℕ) → t ≤ 0x7ff0_0000_0000_0000 → let b = cond s (2 ^ 63) 0 + t in cond (nat_le (2 ^ 63) b) (2 ^ 64 - 1 - b) (2 ^ 63 + b) ≡ cond s (2 ^ 63 - 1 - t) (2 ^ 63 + t)
+key_of :
+    (s : Bool) (t : ℕ) → t ≤ 0x7ff0_0000_0000_0000 → let b = cond s (2 ^ 63) 0 + t in
+    cond (nat_le (2 ^ 63) b) (2 ^ 64 - 1 - b) (2 ^ 63 + b) ≡ cond s (2 ^ 63 - 1 - t) (2 ^ 63 + t)
 key_of true t h = rw (le-leb (2 ^ 63) (2 ^ 63 + t) (omega arith)) (omega arith)
 key_of false t h = rw (lt-leb (2 ^ 63) (0 + t) (omega arith)) (omega arith)
 
-pub key_is : (x : Float) → T (fits binary64 x) → Number x → total_key x ≡ cond (negative x) (2 ^ 63 - 1 - to_bits binary64 (abs x)) (2 ^ 63 + to_bits binary64 (abs x))
+pub key_is :
+    (x : Float) → T (fits binary64 x) → Number x
+    → total_key x ≡ cond (negative x) (2 ^ 63 - 1 - to_bits binary64 (abs x)) (2 ^ 63 + to_bits binary64 (abs x))
 unfolding total_key
 key_is x t n = rw (pattern_sign x) (key_of (negative x) (to_bits binary64 (abs x)) (pattern_most x t n))
 
@@ -77,14 +82,17 @@ total_of_lt x y t u h = rw (key_is x t n.0, key_is y u n.1) (go (negative x) (ne
 
     go :
         (a b : Bool) → negative x ≡ a → negative y ≡ b
-        → cond a (2 ^ 63 - 1 - to_bits binary64 (abs x)) (2 ^ 63 + to_bits binary64 (abs x)) < cond b (2 ^ 63 - 1 - to_bits binary64 (abs y)) (2 ^ 63 + to_bits binary64 (abs y))
+        → cond a (2 ^ 63 - 1 - to_bits binary64 (abs x)) (2 ^ 63 + to_bits binary64 (abs x)) < cond b
+        (2 ^ 63 - 1 - to_bits binary64 (abs y)) (2 ^ 63 + to_bits binary64 (abs y))
     go true true p q = omega (arith, pattern_most x t n.0, shrinks (rw (abs_minus y q, abs_minus x p) at (neg_lt x y h)))
     go true false p q = omega arith
     go false true p q = absurd (no_cross x y h p q)
     go false false p q = omega (arith, grows (rw (← abs_plus x p, ← abs_plus y q) h))
 
 -- ---- one key, one value
-unkey : (b c : ℕ) → b < 2 ^ 64 → c < 2 ^ 64 → cond (nat_le (2 ^ 63) b) (2 ^ 64 - 1 - b) (2 ^ 63 + b) ≡ cond (nat_le (2 ^ 63) c) (2 ^ 64 - 1 - c) (2 ^ 63 + c) → b ≡ c
+unkey :
+    (b c : ℕ) → b < 2 ^ 64 → c < 2 ^ 64
+    → cond (nat_le (2 ^ 63) b) (2 ^ 64 - 1 - b) (2 ^ 63 + b) ≡ cond (nat_le (2 ^ 63) c) (2 ^ 64 - 1 - c) (2 ^ 63 + c) → b ≡ c
 unkey b c hb hc = go (nat_le (2 ^ 63) b) (nat_le (2 ^ 63) c) (leb-true (2 ^ 63) b) (leb-false (2 ^ 63) b) (leb-true (2 ^ 63) c) (leb-false (2 ^ 63) c)
   where
     go :
@@ -100,7 +108,8 @@ unfolding total_key
 same_key x y t u e = same_pattern x y t u (unkey (to_bits binary64 x) (to_bits binary64 y) (to_bits-lt binary64 x t) (to_bits-lt binary64 y u) e)
 
 -- ---- what a key that is less says: `<`, or a -0 and a +0
-pub lt_of_total : (x y : Float) → T (fits binary64 x) → T (fits binary64 y) → Number x → Number y → total_key x < total_key y → T (lt x y) ⊎ (Zero x × Zero y)
+pub lt_of_total :
+    (x y : Float) → T (fits binary64 x) → T (fits binary64 y) → Number x → Number y → total_key x < total_key y → T (lt x y) ⊎ (Zero x × Zero y)
 unfolding le
 lt_of_total x y t u n k h = go (lt x y) refl
   where

@@ -1,7 +1,11 @@
--- The values of `floor` and `ceil`: a size below 2 ^ 53 is cut to a whole number that the format holds, and from there on every value is whole. And what the casts to integers make of them.
+-- The values of `floor` and `ceil`: a size below 2 ^ 53 is cut to a whole number that the format holds, and from there on
+-- every value is whole. And what the casts to integers make of them.
 -- Rests on the kit's account of whole numbers.
-use Rattle.std.specs.Prelude.{◌≡◌, ℕ, zero, suc, ◌+◌, ◌-◌, ◌*◌, ◌/◌, ◌%◌, ◌^◌, ◌<◌, ◌≤◌, min, Bool, true, false, cond, not, ◌&&◌, T, ltb, ℤ, pos, negsuc, neg_ℤ, nat_eq, nat_le, nat_lt, refl, Float}
-use Rattle.std.proofs.Common.{sym, ap, ◌∙◌, le_of_eq, le_of_lt, lt_of_le_of_lt, mul_assoc, mul-one, mul-div_cancel, mul-lt-mul_of_pos_right, div-one, div-lt_iff_lt-mul, div-mul-le_self, zero-lt-suc, arith, ltb→lt, nltb→le, T_not, pow-add, pow_pos, ltb-true, ltb-false}
+use Rattle.std.specs.Prelude.{◌≡◌, ℕ, zero, suc, ◌+◌, ◌-◌, ◌*◌, ◌/◌, ◌%◌, ◌^◌, ◌<◌, ◌≤◌, min, Bool, true}
+use Rattle.std.specs.Prelude.{false, cond, not, ◌&&◌, T, ltb, ℤ, pos, negsuc, neg_ℤ, nat_eq, nat_le, nat_lt, refl, Float}
+use Rattle.std.proofs.Common.{sym, ap, ◌∙◌, le_of_eq, le_of_lt, lt_of_le_of_lt, mul_assoc, mul-one, mul-div_cancel}
+use Rattle.std.proofs.Common.{mul-lt-mul_of_pos_right, div-one, div-lt_iff_lt-mul, div-mul-le_self, zero-lt-suc, arith}
+use Rattle.std.proofs.Common.{ltb→lt, nltb→le, T_not, pow-add, pow_pos, ltb-true, ltb-false}
 use Rattle.std.proofs.Math.Nat.{div-eq_of_lt-le, lt-div-mul-add}
 use Rattle.std.specs.Float.{nan, inf, fin, binary64}
 use Rattle.std.specs.Float.Ieee.{up, down, fits, neg, round, lt, to_signed, to_unsigned}
@@ -28,7 +32,9 @@ Large m e = 2 ^ 53 * down e ≤ m * up e
 up_by : (a d : ℕ) → 0 < d → a / d + bool_byte (nat_lt (a / d * d) a) ≡ (a + d - 1) / d
 up_by a d D = go (a / d) (nat_lt (a / d * d) a) (ltb-true (a / d * d) a) (ltb-false (a / d * d) a) (div-mul-le_self a d) (lt-div-mul-add D)
   where
-    go : (q : ℕ) (b : Bool) → (b ≡ true → q * d < a) → (b ≡ false → a ≤ q * d) → q * d ≤ a → a < q * d + d → q + bool_byte b ≡ (a + d - 1) / d
+    go :
+        (q : ℕ) (b : Bool) → (b ≡ true → q * d < a) → (b ≡ false → a ≤ q * d) → q * d ≤ a → a < q * d + d
+        → q + bool_byte b ≡ (a + d - 1) / d
     go q true y n l h = let k = y refl in sym (div-eq_of_lt-le d (omega arith) (omega arith))
     go q false y n l h = let k = n refl in sym (div-eq_of_lt-le d (omega arith) (omega arith))
 
@@ -53,8 +59,10 @@ unfolding fits
 digits_lt s m e t =
     let a = nat_eq (suc m % 2) 1 in
     let b = ltb (suc m) (2 ^ 53) in
-    let c = nat_le (down e) (2 ^ 1074) in
-    (ltb→lt (suc m) (2 ^ 53) (and_r a b (and_l (a && b) c (and_l (a && b && c) (nat_lt (suc m * up e) (2 ^ 1024 * down e)) t))), ltb→lt (suc m * up e) (2 ^ 1024 * down e) (and_r (a && b && c) (nat_lt (suc m * up e) (2 ^ 1024 * down e)) t))
+    let c = nat_le (down e) (2 ^ 1074) in (
+      ltb→lt (suc m) (2 ^ 53) (and_r a b (and_l (a && b) c (and_l (a && b && c) (nat_lt (suc m * up e) (2 ^ 1024 * down e)) t))),
+      ltb→lt (suc m * up e) (2 ^ 1024 * down e) (and_r (a && b && c) (nat_lt (suc m * up e) (2 ^ 1024 * down e)) t),
+    )
 
 round_own : (s : Bool) (m k : ℕ) → T (fits binary64 (fin s (suc m) (pos k))) → round binary64 s (suc m * 2 ^ k) 1 ≡ fin s (suc m) (pos k)
 round_own s m k t =
@@ -137,7 +145,8 @@ small_or {X = X} m e f g = go (nat_lt (m * up e) (2 ^ 53 * down e)) (ltb-true (m
     go false y n = g (n refl)
 
 floor_cast : (m : ℕ) (e : ℤ) → T (fits binary64 (fin false (suc m) e)) → as_i64 (floor (fin false (suc m) e)) ≡ as_i64 (fin false (suc m) e)
-floor_cast m e t = small_or (suc m) e (λ h. same_cast false m e (floor (fin false (suc m) e)) (floor_above m e h)) (λ h. ap as_i64 (floor_large false m e t h))
+floor_cast m e t =
+    small_or (suc m) e (λ h. same_cast false m e (floor (fin false (suc m) e)) (floor_above m e h)) (λ h. ap as_i64 (floor_large false m e t h))
 
 ceil_large : (s : Bool) (m : ℕ) (e : ℤ) → T (fits binary64 (fin s (suc m) e)) → Large (suc m) e → ceil (fin s (suc m) e) ≡ fin s (suc m) e
 unfolding ceil neg fits

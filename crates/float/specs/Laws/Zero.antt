@@ -30,7 +30,9 @@ zero_not_below false e t = let h = ltb→lt (0 * up e * 1) (0 * down e) t in ome
 
 pub zero_equal : (s : Bool) (e : ℤ) → T (eq (fin s zero e) origin)
 unfolding eq
-zero_equal true e = and_i (0 * up e * 1 == 0 * down e) (0 * up e * 1 == 0) (eq→eqb {a = 0 * up e * 1} {b = 0 * down e} (omega arith)) (eq→eqb {a = 0 * up e * 1} {b = 0} (omega arith))
+zero_equal true e =
+    and_i (0 * up e * 1 == 0 * down e) (0 * up e * 1 == 0)
+    (eq→eqb {a = 0 * up e * 1} {b = 0 * down e} (omega arith)) (eq→eqb {a = 0 * up e * 1} {b = 0} (omega arith))
 zero_equal false e = and_i (0 * up e * 1 == 0 * down e) true (eq→eqb {a = 0 * up e * 1} {b = 0 * down e} (omega arith)) tt
 
 size_pos : (m : ℕ) (e : ℤ) → 0 < suc m * up e
@@ -46,7 +48,9 @@ negative_below m e = lt→ltb 0 (suc m * up e * 1 + 0 * down e) (omega (arith, s
 
 pub nonzero_unequal : (s : Bool) (m : ℕ) (e : ℤ) → T (eq (fin s (suc m) e) origin) → ⊥
 unfolding eq
-nonzero_unequal s m e t = let h = eqb→eq (suc m * up e * 1) (0 * down e) (and_l (suc m * up e * 1 == 0 * down e) (beq s false || suc m * up e * 1 == 0) t) in omega (arith, size_pos m e)
+nonzero_unequal s m e t =
+    let h =
+    eqb→eq (suc m * up e * 1) (0 * down e) (and_l (suc m * up e * 1 == 0 * down e) (beq s false || suc m * up e * 1 == 0) t) in omega (arith, size_pos m e)
 
 -- ---- in terms of `≤`: a zero of either sign is at most zero and at least zero, and a value with no minus is at least zero
 pub zero_le : (s : Bool) (e : ℤ) → T (le (fin s zero e) origin)

@@ -38,12 +38,8 @@ unwrap-second-requires c =
     let w = work_long (length c.args.first.now) (length c.args.second.now) (sym c.in_ok-check_work.ensures) in
     c.first_chunk_mut-2.ensures.variant.1 w.1
 
-pub plan_job-answer-requires : goal.plan_job-answer-requires
-plan_job-answer-requires c =
-    record {
-      at = c.in_ok-job.ensures.job.1;
-      bytes = rw c.in_ok-job.ensures.job.0 (lent_short c.args.s.now (sym c.in_ok-job.ensures.fault));
-    }
+pub plan_job-answer-requires-clause-bytes : goal.plan_job-answer-requires-clause-bytes
+plan_job-answer-requires-clause-bytes c = rw c.in_ok-job.ensures.job.0 (lent_short c.args.s.now (sym c.in_ok-job.ensures.fault))
 
 pub returns : goal.returns
 returns c =

@@ -27,7 +27,7 @@ pub fn floor(number: u64) -> Option<Floor> {
 pub struct PieceInput {
     pub piece: RegionPiece,
     pub ring_sizes: Vec<u64>,
-    pub coords: Vec<f64>,
+    pub points: Vec<[f64; 2]>,
     /// The marks that its zone's count gives it.
     pub quota: usize,
 }
@@ -45,7 +45,7 @@ pub fn pieces(floor: &Floor) -> Vec<PieceInput> {
             inputs.push(PieceInput {
                 piece,
                 ring_sizes: rings.iter().map(|ring| ring.len() as u64).collect(),
-                coords: rings.iter().flatten().flatten().map(|n| judge::units(*n)).collect(),
+                points: rings.iter().flatten().map(|vertex| vertex.map(judge::units)).collect(),
                 quota,
             });
         }
@@ -55,14 +55,14 @@ pub fn pieces(floor: &Floor) -> Vec<PieceInput> {
 }
 
 impl PieceInput {
-    pub fn outer(&self) -> &[f64] {
-        &self.coords[..2 * self.ring_sizes[0] as usize]
+    pub fn outer(&self) -> &[[f64; 2]] {
+        &self.points[..self.ring_sizes[0] as usize]
     }
 
     /// Places in, on, beside and far from the piece.
     pub fn places(&self, rng: &mut Rng) -> Vec<[f64; 2]> {
-        let xs = || self.coords.iter().step_by(2).copied();
-        let ys = || self.coords.iter().skip(1).step_by(2).copied();
+        let xs = || self.points.iter().map(|[x, _]| *x);
+        let ys = || self.points.iter().map(|[_, y]| *y);
         let low = |numbers: &mut dyn Iterator<Item = f64>| numbers.fold(1.0e4, f64::min);
         let high = |numbers: &mut dyn Iterator<Item = f64>| numbers.fold(-1.0e4, f64::max);
         let (left, right) = (low(&mut xs()), high(&mut xs()));
@@ -85,13 +85,11 @@ impl PieceInput {
     }
 
     fn some_edge(&self, rng: &mut Rng) -> Option<[[f64; 2]; 2]> {
-        let vertices = self.coords.len() / 2;
-        if vertices < 2 {
+        if self.points.len() < 2 {
             return None;
         }
-        let k = 2 * rng.index(vertices - 1);
-        let c = &self.coords;
-        Some([[c[k], c[k + 1]], [c[k + 2], c[k + 3]]])
+        let k = rng.index(self.points.len() - 1);
+        Some([self.points[k], self.points[k + 1]])
     }
 
     /// A radius at which about the quota fits: stated, or by the area.

@@ -1,5 +1,8 @@
 //! The functions of `libprobes.a`, as `probes.h` declares them.
 
+/// x and y.
+pub type ProbePoint = [f64; 2];
+
 #[repr(C)]
 pub struct ProbeRectangle {
     pub center_x: f64,
@@ -28,8 +31,8 @@ macro_rules! of_piece {
             $(pub fn $name(
                 ring_sizes: *const u64,
                 rings: usize,
-                coords: *const f64,
-                floats: usize,
+                points: *const ProbePoint,
+                point_count: usize,
                 $($argument: $type),*
             ) $(-> $answer)?;)*
         }
@@ -38,9 +41,9 @@ macro_rules! of_piece {
 
 of_piece! {
     fn probe_signed_clearance(x: f64, y: f64) -> f64;
-    fn probe_four_clearances(places: &[[f64; 2]; 4], found: &mut [f64; 4]);
+    fn probe_four_clearances(places: &[ProbePoint; 4], found: &mut [f64; 4]);
     fn probe_clearance_at_least(x: f64, y: f64, c: f64) -> bool;
-    fn probe_count_clear(places: *const f64, place_floats: usize, c: f64) -> u64;
+    fn probe_count_clear(places: *const ProbePoint, place_count: usize, c: f64) -> u64;
     fn probe_area() -> f64;
     fn probe_obstacles_near(
         obstacles: *const ProbeRectangle, obstacle_count: usize,
@@ -63,8 +66,17 @@ of_piece! {
 }
 
 unsafe extern "C" {
-    pub fn probe_point_in_polygon(ring: *const f64, floats: usize, x: f64, y: f64) -> bool;
-    pub fn probe_ring_bounds(ring: *const f64, floats: usize, bounds: &mut [f64; 4]) -> bool;
+    pub fn probe_point_in_polygon(
+        ring: *const ProbePoint,
+        point_count: usize,
+        x: f64,
+        y: f64,
+    ) -> bool;
+    pub fn probe_ring_bounds(
+        ring: *const ProbePoint,
+        point_count: usize,
+        bounds: &mut [f64; 4],
+    ) -> bool;
 }
 
 macro_rules! packers {

@@ -10,8 +10,8 @@ macro_rules! call {
             $function(
                 $piece.ring_sizes.as_ptr(),
                 $piece.ring_sizes.len(),
-                $piece.coords.as_ptr(),
-                $piece.coords.len(),
+                $piece.points.as_ptr(),
+                $piece.points.len(),
                 $($argument),*
             )
         }
@@ -35,15 +35,15 @@ const WORK_FLOATS: usize = 8_000;
 #[derive(Clone, Copy)]
 pub struct Piece<'a> {
     ring_sizes: &'a [u64],
-    coords: &'a [f64],
+    points: &'a [[f64; 2]],
 }
 
 impl<'a> Piece<'a> {
-    /// Of its ring sizes, the outer ring first, and its coordinates.
-    pub fn new(ring_sizes: &'a [u64], coords: &'a [f64]) -> Self {
+    /// Of its ring sizes, the outer ring first, and its vertices.
+    pub fn new(ring_sizes: &'a [u64], points: &'a [[f64; 2]]) -> Self {
         let vertices: u64 = ring_sizes.iter().sum();
-        assert!(!ring_sizes.is_empty() && coords.len() as u64 == 2 * vertices, "not a piece");
-        Self { ring_sizes, coords }
+        assert!(!ring_sizes.is_empty() && points.len() as u64 == vertices, "not a piece");
+        Self { ring_sizes, points }
     }
 
     #[inline]
@@ -63,7 +63,6 @@ impl<'a> Piece<'a> {
 
     #[inline]
     pub fn count_clear(self, places: &[[f64; 2]], c: f64) -> u64 {
-        let places = places.as_flattened();
         call!(self, probe_count_clear, places.as_ptr(), places.len(), c)
     }
 
@@ -107,12 +106,12 @@ impl<'a> Piece<'a> {
     }
 }
 
-pub fn point_in_polygon(ring: &[f64], x: f64, y: f64) -> bool {
+pub fn point_in_polygon(ring: &[[f64; 2]], x: f64, y: f64) -> bool {
     // SAFETY: the pointer comes with its slice's length.
     unsafe { probe_point_in_polygon(ring.as_ptr(), ring.len(), x, y) }
 }
 
-pub fn ring_bounds(ring: &[f64], bounds: &mut [f64; 4]) -> bool {
+pub fn ring_bounds(ring: &[[f64; 2]], bounds: &mut [f64; 4]) -> bool {
     // SAFETY: the pointer comes with its slice's length.
     unsafe { probe_ring_bounds(ring.as_ptr(), ring.len(), bounds) }
 }

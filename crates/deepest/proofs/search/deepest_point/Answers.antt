@@ -21,5 +21,6 @@ returns c =
       ← c.ring_extents-bounds.ensures,
       c.if-width-height.false,
       ← c.min-side.ensures,
+      ← c.as_chunks_mut-rows.ensures.front_len,
     )
     c.search.ensures

@@ -1,6 +1,6 @@
 -- `explore` meets its contract. The invariant: what is left of the definition's search is that of the cells that wait. The measure is what they weigh.
 -- Rests on the laws of the search's state.
-use Rattle.std.proofs.Common.{◌<◌, ◌+◌, ◌/◌, length, ◌≡◌, ◌-◌, true, false, refl, sym, ◌∙◌, arith}
+use Rattle.std.proofs.Common.{◌<◌, ◌+◌, length, ◌≡◌, ◌-◌, true, false, refl, sym, ◌∙◌, arith}
 use Rattle.deepest.specs.Deepest.{better_of, splits_at}
 use Rattle.deepest.specs.Turns.{nodes_pos, nodes_split}
 use Rattle.deepest.specs.Search.{search_start, search_keep, search_split, search_full, search_room, search_done, lighter}
@@ -19,7 +19,7 @@ returns-then-room-lt4 c =
     let p = rw i.0 at out.popped in
     let same = out.halves ∙ i.0 in
     let e : splits_at a.waiting.now.halves.now a.precision c.in-Some.cell (better_of c.loop-cell.best c.in-Some.cell) ≡ true = cc (c.splits.ensures.0) in
-    let over : length a.waiting.now.cells.now / 5 < c.pop.new.self.len + 4 = omega (arith, p.long, i.1.long, c.room.ensures.places, c.if-room-lt4.true) in
+    let over : length a.waiting.now.cells.now < c.pop.new.self.len + 4 = omega (arith, p.long, i.1.long, c.room.ensures.places, c.if-room-lt4.true) in
     record { answer = λ q w. sym (search_full _ _ _ _ _ _ _ _ _ _ _ i.1 _ _ _ out.len p e over q w) }
 
 pub push_four-requires : goal.push_four-requires

@@ -1,6 +1,6 @@
 -- `seed` meets its contract. The invariant: the cells that wait are those of the grid up to the corner. The measure is the room.
 -- Rests on the laws of the grid.
-use Rattle.std.proofs.Common.{◌<◌, ◌/◌, length, ◌∙◌, refl, arith}
+use Rattle.std.proofs.Common.{◌<◌, length, ◌∙◌, refl, arith}
 use Rattle.deepest.specs.Plant.{plant_start, plant_over, plant_step, plant_end}
 use Rattle.deepest.specs.Turns.{entered}
 use Rattle.deepest.proofs.seeds.seed.Goals as goal
@@ -30,7 +30,7 @@ loop-next-preserved c =
     let i = c.loop-next.invariant in
     let w = c.push.ensures in
     let e = rw (i.1, i.2) at (entered _ _ _ _ _ _ _ _ _ _ c.signed_clearance-d.ensures w.pushed) in
-    let more : c.loop-next.waiting.len < length c.args.waiting.now.cells.now / 5 = omega (arith, i.0, c.room.ensures.places, c.if-room-eq0.false) in (
+    let more : c.loop-next.waiting.len < length c.args.waiting.now.cells.now = omega (arith, i.0, c.room.ensures.places, c.if-room-eq0.false) in (
       e.long ∙ i.0,
       w.halves ∙ i.1,
       rw (w.len, w.entered, i.2),

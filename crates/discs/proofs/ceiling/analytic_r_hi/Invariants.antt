@@ -9,8 +9,10 @@ use Rattle.discs.proofs.ceiling.analytic_r_hi.Given as goal
 abbrev pub invariant-loop-zone : goal.invariant-loop-zone
 invariant-loop-zone l =
     let left = l.zone-iterator in
-    (left.rings.now ≡ l.rings)
-    × (left.sizes.now ≡ l.sizes)
-    × EachRow l.rings l.sizes (Stands l.rings l.sizes l.coords l.deepest) left.rows.now left.at
-    × ((s quotas : List ℕ) → foldl (lowered_by l.gap) ∞ (work_in s l.rows l.rings l.sizes l.coords quotas l.deepest)
-    ≡ foldl (lowered_by l.gap) l.r_hi (handed_work (handed_from s l.rings l.sizes l.coords quotas l.deepest left.rows.now left.at)))
+    let all = l.layout in
+    (left.layout ≡ all)
+    × EachRow all.rings.now all.sizes.now (Stands all.rings.now all.sizes.now all.points.now l.deepest) left.rows.now left.at
+    × ((s quotas : List ℕ)
+    → foldl (lowered_by l.gap) ∞ (work_in s all.rows.now all.rings.now all.sizes.now all.points.now quotas l.deepest)
+    ≡ foldl (lowered_by l.gap) l.r_hi
+    (handed_work (handed_from s all.rings.now all.sizes.now all.points.now quotas l.deepest left.rows.now left.at)))

@@ -1,6 +1,6 @@
 -- `pack_pieces` meets its contract. The invariant: the pieces left, from the stream as it is now, and the spots so far make up the whole.
 -- Rests on the laws of a turn.
-use Rattle.std.proofs.Common.{rules, refl, arith, length-take, length-drop}
+use Rattle.std.proofs.Common.{rules, refl, arith}
 use Rattle.discs.specs.Bundles.{lent_on, lent_same}
 use Rattle.discs.proofs.Turns.{begin, turn, no_piece, no_point, no_quota, none_left, ended, quota_fits}
 use Rattle.discs.proofs.region.pack_pieces.Goals as goal
@@ -8,26 +8,23 @@ use Rattle.discs.proofs.region.pack_pieces.Goals as goal
 pub loop-piece-init : goal.loop-piece-init
 loop-piece-init c =
     let a = c.args in
-    let whole = begin a.packing.numbers a.packing.options a.ctx _ _ a.region.deepest.now a.region.quotas.now a.start a.spots.now in
+    let p = a.how.packing in
+    let whole = begin p.numbers p.options a.how.ctx _ _ a.region.deepest.now a.region.quotas.now a.start a.spots.now in
     let outer = c.zip-piece-items.ensures in
     let inner = c.zip.ensures in
     (rw (c.into_iter-piece-iterator.ensures.into_iter_gives, outer.first, inner.first, outer.second.0, inner.second.0) whole, lent_same a.lent.now, refl)
 
-pub pack_piece-taken-requires : goal.pack_piece-taken-requires
-pack_piece-taken-requires c =
+pub pack_piece-taken-requires-clause-room : goal.pack_piece-taken-requires-clause-room
+pack_piece-taken-requires-clause-room c =
     let l = c.loop-piece in
     let room = c.requires.room in
     let same = l.invariant.1 in
     let s = c.in-Some.ensures.steps in
     let fits = quota_fits l.invariant.0 s.0.0 s.1 s.0.1 in
     record {
-      room = record {
-        near = omega (arith, room.near, same.near_long);
-        second = omega (arith, fits, room.second, same.second_long);
-        flags = omega (arith, fits, room.flags, same.flags_long);
-      };
-      spots = simp (length-take, length-drop) (omega (arith, fits, c.requires.spots, l.invariant.2));
-      strict = c.requires.strict;
+      near = omega (arith, room.near, same.near_long);
+      second = omega (arith, fits, room.second, same.second_long);
+      flags = omega (arith, fits, room.flags, same.flags_long);
     }
 
 pub overflow_mul-to : goal.overflow_mul-to
@@ -66,12 +63,8 @@ loop-piece-preserved c =
       search rules,
     )
 
-pub returns : goal.returns
-returns c =
+pub returns-clause-placed : goal.returns-clause-placed
+returns-clause-placed c =
     let g = c.loop-piece.invariant.0 in
-    record {
-      placed =
-          ended (λ v p. no_piece g p.0) (λ w p. no_quota g (none_left _ p.0))
-          (λ t p. no_point g (none_left _ p.0)) c.in-None.ensures.steps;
-      same = c.loop-piece.invariant.1;
-    }
+    ended (λ v p. no_piece g p.0) (λ w p. no_quota g (none_left _ p.0))
+    (λ t p. no_point g (none_left _ p.0)) c.in-None.ensures.steps

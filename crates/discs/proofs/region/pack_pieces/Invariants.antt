@@ -14,8 +14,8 @@ invariant-loop-piece l =
     let quotas = zip_second (zip_first l.piece-iterator) in
     let points = zip_second l.piece-iterator in
     let region = l.region in
-    let p = l.packing in
-    Going p.numbers p.options l.ctx p.obstacles.now (pieces_left region.pieces) region.deepest.now region.quotas.now l.initial.rng l.initial.spots
-    (pieces_left pieces) (iter_rest points) (iter_rest quotas) l.placed l.rng l.spots
+    let p = l.how.packing in
+    Going p.numbers p.options l.how.ctx p.obstacles.now (pieces_left region.pieces) region.deepest.now region.quotas.now l.initial.rng
+    l.initial.spots (pieces_left pieces) (iter_rest points) (iter_rest quotas) l.placed l.rng l.spots
     × SameLent l.initial.lent l.lent
     × (length l.spots ≡ length l.initial.spots)

@@ -12,8 +12,9 @@ invariant-loop-zone l =
     let p = l.packing in
     let pillars = p.obstacles.now in
     let left = l.zone-iterator in
-    (left.rings.now ≡ l.zones.rings.now)
-    × (left.sizes.now ≡ l.zones.sizes.now)
-    × EachRow l.zones.rings.now l.zones.sizes.now (IsPackable l.zones) left.rows.now left.at
+    let layout = l.zones.layout in
+    (left.layout ≡ layout)
+    × EachRow layout.rings.now layout.sizes.now (IsPackable l.zones) left.rows.now left.at
     × SameWork l.initial.work l.work
-    × (fits_in p l.zones pillars l.r ≡ all (holds_all p.numbers p.options (context_at p.options probe l.r) pillars) (work_from l.zones left.rows.now left.at))
+    × (fits_in p l.zones pillars l.r
+    ≡ all (holds_all p.numbers p.options (context_at p.options probe l.r) pillars) (work_from l.zones left.rows.now left.at))

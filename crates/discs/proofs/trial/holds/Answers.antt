@@ -13,7 +13,7 @@ returns-then-not-is_left_in-clause-held c =
     let z = c.args.zones in
     let h = c.requires.packable.stands in
     rw (
-      left_in z.bytes.now z.rings.now z.sizes.now z.coords.now z.quotas.now z.deepest.now c.args.zone.row c.args.zone.at h.pieces,
+      left_in z.bytes.now z.layout.rings.now z.layout.sizes.now z.layout.points.now z.quotas.now z.deepest.now c.args.zone.row c.args.zone.at h.pieces,
       ← c.is_left_in.ensures,
       c.if-not-is_left_in.true,
     )
@@ -27,7 +27,6 @@ pack_region-placed-requires c =
     record {
       room = record { near = c.requires.near; second = omega (arith, few, w.room_second); flags = omega (arith, few, w.room_flags) };
       spots = omega (arith, few, w.room_spots);
-      strict = λ t. c.requires.strict;
     }
 
 pub returns-clause-held : goal.returns-clause-held
@@ -37,7 +36,7 @@ returns-clause-held c =
     let h = c.requires.packable.stands in
     let region = c.region_at-region.ensures in
     rw (
-      left_in z.bytes.now z.rings.now z.sizes.now z.coords.now z.quotas.now z.deepest.now c.args.zone.row c.args.zone.at h.pieces,
+      left_in z.bytes.now z.layout.rings.now z.layout.sizes.now z.layout.points.now z.quotas.now z.deepest.now c.args.zone.row c.args.zone.at h.pieces,
       ← c.is_left_in.ensures,
       c.if-not-is_left_in.false,
       c.pack_region-placed.ensures.placed.counted,

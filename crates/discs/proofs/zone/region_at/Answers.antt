@@ -1,5 +1,5 @@
 -- `region_at` meets its contract.
--- Rests on the parts that the code cuts, and on the contract of `pieces_at`.
+-- Rests on the parts that the code cuts, and on the contract of `Layout::pieces`.
 use Rattle.std.proofs.Common.{ap}
 use Rattle.discs.specs.Pieces.{deepests_of}
 use Rattle.discs.specs.Floor.{handed_at}
@@ -12,7 +12,7 @@ returns-clause-key c = part_is c.args.zone.row.key c.args.zone.row.len c.args.zo
 
 pub returns-clause-pieces : goal.returns-clause-pieces
 unfolding handed_at
-returns-clause-pieces c = c.pieces_at.ensures.pieces
+returns-clause-pieces c = c.pieces.ensures.pieces
 
 pub returns-clause-quotas : goal.returns-clause-quotas
 unfolding handed_at

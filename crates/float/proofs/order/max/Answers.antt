@@ -1,18 +1,17 @@
 -- `float::max` meets its contract: its tests are those of the definition.
--- Rests on `Laws/Nan.antt`: a value differs from itself where it is a NaN.
+-- Rests on what the library's test for a NaN ensures.
 use Rattle.laws.specs.Choice.{picks}
 use Rattle.float.specs.Order.{max}
-use Rattle.float.specs.Laws.Nan.{is_nan_lem, not_nan}
 use Rattle.float.proofs.order.max.Goals as goal
 
-pub returns-then-a : goal.returns-then-a
+pub returns-then-is_nan : goal.returns-then-is_nan
 unfolding max
-returns-then-a c = rw (is_nan_lem _ c.if-a.true) (search picks)
+returns-then-is_nan c = rw (← c.is_nan.ensures.value, c.if-is_nan.true) (search picks)
 
 pub returns-then-a-b : goal.returns-then-a-b
 unfolding max
-returns-then-a-b c = rw (not_nan _ c.if-a.false) (search picks)
+returns-then-a-b c = rw (← c.is_nan.ensures.value, c.if-is_nan.false) (search picks)
 
 pub returns-else-a-b : goal.returns-else-a-b
 unfolding max
-returns-else-a-b c = rw (not_nan _ c.if-a.false) (search picks)
+returns-else-a-b c = rw (← c.is_nan.ensures.value, c.if-is_nan.false) (search picks)

@@ -1,4 +1,5 @@
--- `float::digit_root` meets its contract. The invariant: q has the digits of the root down to the bit, and what is left is kept beside it. The measure is the bit.
+-- `float::digit_root` meets its contract. The invariant: q has the digits of the root down to the bit, and what is left is
+-- kept beside it. The measure is the bit.
 -- Rests on `Digit.antt`.
 use Rattle.std.proofs.Common.{◌*◌, ◌^◌}
 use Rattle.float.proofs.roots.Digit.{State}

@@ -8,7 +8,9 @@ use Rattle.float.specs.Order.{sqrt}
 use Rattle.float.proofs.roots.each_root.Goals as goal
 
 -- one more float, whose root stands at its place
-next : (xs ys : List Float) (i : ℕ) → i < length xs → i < length ys → take i ys ≡ map sqrt (take i xs) → get_or ys i nan ≡ sqrt (get_or xs i nan) → take (i + 1) ys ≡ map sqrt (take (i + 1) xs)
+next :
+    (xs ys : List Float) (i : ℕ) → i < length xs → i < length ys → take i ys ≡ map sqrt (take i xs) → get_or ys i nan ≡ sqrt (get_or xs i nan)
+    → take (i + 1) ys ≡ map sqrt (take (i + 1) xs)
 next xs ys i h k e r = rw (take_more ys i nan k, map_more sqrt xs i nan h, e, r)
 
 all : (xs ys : List Float) (n i : ℕ) → length xs ≡ n → length ys ≡ n → n ≤ i → take i ys ≡ map sqrt (take i xs) → ys ≡ map sqrt xs

@@ -1,4 +1,5 @@
--- `float::each_root`: what is known after the floats up to the index: that they are normal, that the guesses at them are their roots, and that the roots of them are found.
+-- `float::each_root`: what is known after the floats up to the index: that they are normal, that the guesses at them are
+-- their roots, and that the roots of them are found.
 -- Rests on the meaning of `Normal` and of the root.
 use Rattle.std.proofs.Common.{◌≡◌, ℕ, ◌<◌, true, length, take, map, slice_index_or}
 use lib.Ieee.{nan}

@@ -24,13 +24,16 @@ pub overflow_sub-z-then-bits-lt4503599627370496 : goal.overflow_sub-z-then-bits-
 overflow_sub-z-then-bits-lt4503599627370496 c = omega (arith, moved c.args.bits c.requires.above_zero c.if-bits-lt4503599627370496.true)
 
 pub scaled_root-requires : goal.scaled_root-requires
-scaled_root-requires c = record { low = omega (arith, moved c.args.bits c.requires.above_zero c.if-bits-lt4503599627370496.true); high = omega (arith, moved c.args.bits c.requires.above_zero c.if-bits-lt4503599627370496.true); places = omega (arith, moved c.args.bits c.requires.above_zero c.if-bits-lt4503599627370496.true) }
+scaled_root-requires c =
+    let m = moved c.args.bits c.requires.above_zero c.if-bits-lt4503599627370496.true in
+    record { low = omega (arith, m); high = omega (arith, m); places = omega (arith, m) }
 
 pub returns-then-bits-lt4503599627370496 : goal.returns-then-bits-lt4503599627370496
 returns-then-bits-lt4503599627370496 c =
     let f = moved c.args.bits c.requires.above_zero c.if-bits-lt4503599627370496.true in
     c.scaled_root.ensures
-    ∙ ap (λ (n : ℕ). nearest_root binary64 (n * 2 ^ 52 * 2 ^ (1022 - (count_leading_zeros 64 c.args.bits - 11)))) (kept (c.args.bits * 2 ^ (count_leading_zeros 64 c.args.bits - 11)) f.3)
+    ∙ ap (λ (n : ℕ). nearest_root binary64 (n * 2 ^ 52 * 2 ^ (1022 - (count_leading_zeros 64 c.args.bits - 11))))
+    (kept (c.args.bits * 2 ^ (count_leading_zeros 64 c.args.bits - 11)) f.3)
     ∙ sym (subnormal_root c.args.bits (count_leading_zeros 64 c.args.bits - 11) c.requires.above_zero c.if-bits-lt4503599627370496.true f.1)
 
 pub returns : goal.returns

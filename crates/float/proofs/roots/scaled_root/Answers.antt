@@ -12,7 +12,8 @@ most c =
     at_most (c.args.m * 2 ^ (c.args.g % 2) % 2 ^ 64) c.digit_root.result (moved_lt c.args.m c.args.g c.requires.low c.requires.high) c.digit_root.ensures
 
 pub digit_root-requires : goal.digit_root-requires
-digit_root-requires c = record { low = moved_le c.args.m c.args.g c.requires.low c.requires.high; high = moved_lt c.args.m c.args.g c.requires.low c.requires.high }
+digit_root-requires c =
+    record { low = moved_le c.args.m c.args.g c.requires.low c.requires.high; high = moved_lt c.args.m c.args.g c.requires.low c.requires.high }
 
 pub overflow_add-result : goal.overflow_add-result
 overflow_add-result c = omega (arith, most c)

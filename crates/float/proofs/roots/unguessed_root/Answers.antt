@@ -17,7 +17,8 @@ pub float_to_bits-bits : goal.float_to_bits-bits
 float_to_bits-bits c = above_number c.args.x c.if-x.true
 
 pub root_of-requires : goal.root_of-requires
-root_of-requires c = record { above_zero = above_pattern c.args.x (held c.before.before) c.if-x.true; finite = omega (arith, c.if-bits-lt9218868437227405312.true) }
+root_of-requires c =
+    record { above_zero = above_pattern c.args.x (held c.before.before) c.if-x.true; finite = omega (arith, c.if-bits-lt9218868437227405312.true) }
 
 pub returns-then-bits-lt9218868437227405312 : goal.returns-then-bits-lt9218868437227405312
 returns-then-bits-lt9218868437227405312 c =

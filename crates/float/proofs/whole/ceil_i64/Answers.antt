@@ -24,7 +24,11 @@ small c = above_le c.args.x c.whole_above.result c.whole_above.ensures (above c.
 -- where x is no fraction above zero
 same : (c : Joined-x) → as_i64 (ceil c.args.x) ≡ as_i64 c.args.x
 unfolding of_bits
-same c = elim c.if-x.branch [ then-x+else-x-2 w ↦ ceil_cast_far c.args.x (held c.before) (no w.if-x-2.false) | else-x w ↦ ceil_cast_below c.args.x (held c.before) (no w.if-x.false) ]
+same c =
+    elim c.if-x.branch [
+      | then-x+else-x-2 w ↦ ceil_cast_far c.args.x (held c.before) (no w.if-x-2.false)
+      | else-x w ↦ ceil_cast_below c.args.x (held c.before) (no w.if-x.false)
+    ]
 
 pub whole_above-requires : goal.whole_above-requires
 whole_above-requires c = let p = (above_asks c.args.x (above c)) in record { above_zero = p.0; small = p.1 }

@@ -24,7 +24,11 @@ small c = above_le (neg c.args.x) c.whole_above.result c.whole_above.ensures (ne
 -- where x is no fraction below zero
 same : (c : Joined-x) → as_i64 (floor c.args.x) ≡ as_i64 c.args.x
 unfolding of_bits neg
-same c = elim c.if-x.branch [ then-x+else-x-2 w ↦ floor_cast_far c.args.x (held c.before) (no w.if-x-2.false) | else-x w ↦ floor_cast_above c.args.x (held c.before) (no w.if-x.false) ]
+same c =
+    elim c.if-x.branch [
+      | then-x+else-x-2 w ↦ floor_cast_far c.args.x (held c.before) (no w.if-x-2.false)
+      | else-x w ↦ floor_cast_above c.args.x (held c.before) (no w.if-x.false)
+    ]
 
 pub whole_above-requires : goal.whole_above-requires
 whole_above-requires c = let p = (above_asks (neg c.args.x) (neg_sized _ (below c))) in record { above_zero = p.0; small = p.1 }

@@ -1,30 +1,22 @@
--- `uint` reads a number. Invariant: it is the number of the bytes so far.
--- Rests on `uint_next` and on the room of one digit more.
-use mathlib.Core.Path.{refl, sym, ◌∙◌}
-use native.Mathlib.Omega.{arith}
-use Rattle.std.proofs.Common.{zero-add}
-use Rattle.format.specs.Numbers.{uint}
-use Rattle.format.specs.NumberLaws.{digit_room}
-use Rattle.format.proofs.NumberLaws.{uint_next}
+-- `uint` reads a number as the end of a word.
+-- Rests on the library's conversion being the definition.
+use mathlib.Core.List.{◌++◌}
+use Prim.Native.Nat.{◌+◌, ◌-◌}
+use lib.ListN.{length, replicate}
+use borrow.Rule.Slice.PartMut.{put_mid}
+use Rattle.std.specs.Int.{w64, from_be_bytes}
+use Rattle.std.proofs.Common.{◌≡◌, ◌∙◌, arith}
+use Rattle.format.proofs.WordLaws.{of_word, zeros_first, ends_word, uint_room}
 use Rattle.format.proofs.numbers.uint.Goals as goal
 
-pub overflow_mul-number : goal.overflow_mul-number
-overflow_mul-number c =
-    let l = c.loop-byte in
-    record { fits = omega (arith, (digit_room l.byte-index l.number 0 (omega arith) l.invariant.0 (omega arith)).1) }
-
-pub overflow_add-number : goal.overflow_add-number
-overflow_add-number c =
-    let l = c.loop-byte in
-    record { fits = omega (arith, (digit_room l.byte-index l.number _ (omega arith) l.invariant.0 (c.type_inv.bytes l.byte-index).fits).1) }
-
-pub loop-byte-preserved : goal.loop-byte-preserved
-loop-byte-preserved c =
-    let l = c.loop-byte in
+pub returns : goal.returns
+returns c =
     let b = c.args.bytes.now in
-    let room = digit_room l.byte-index l.number _ (omega arith) l.invariant.0 (c.type_inv.bytes l.byte-index).fits in
-    (room.0, sym (uint_next l.byte-index b 0 ∙ rw (← l.invariant.1, zero-add)))
-
-pub loop-byte-init : goal.loop-byte-init
-unfolding uint
-loop-byte-init c = (omega arith, refl)
+    let n = length b in
+    let k : 8 - n + n ≡ 8 = omega arith in
+    let word : c.from_be_bytes.result ≡ from_be_bytes w64 (put_mid (8 - n) (8 - (8 - n)) (replicate 8 0) c.copy_from_slice.new.self) =
+    c.from_be_bytes.ensures in
+    let whole : c.from_be_bytes.result ≡ from_be_bytes w64 (replicate (8 - n) 0 ++ b) =
+    rw (c.copy_from_slice.ensures.after, ends_word b c.requires) at word in
+    let v = whole ∙ of_word (replicate (8 - n) 0 ++ b) ∙ rw k at (zeros_first (8 - n) n b) in
+    (v, rw v (uint_room n b c.requires (λ i. (c.type_inv.bytes i).fits)))

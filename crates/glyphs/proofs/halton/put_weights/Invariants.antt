@@ -6,4 +6,5 @@ use Rattle.glyphs.specs.Digits.{weight_at, Upto}
 use Rattle.glyphs.proofs.halton.put_weights.Given as goal
 
 abbrev pub invariant-loop-j : goal.invariant-loop-j
-invariant-loop-j l = (length l.weights ≡ length l.initial.weights) × (l.b ≡ as_f64 l.base) × (l.weight ≡ weight_at l.base l.j) × Upto l.base l.j l.weights
+invariant-loop-j l =
+    (length l.weights ≡ length l.initial.weights) × (l.b ≡ as_f64 l.base) × (l.weight ≡ weight_at l.base l.j) × Upto l.base l.j l.weights

@@ -10,14 +10,16 @@ returns-then-not-dist_to_rect-clearance c =
     let l = c.loop-rect in
     sym
     (l.invariant
-    ∙ clear_stops a.px a.py a.clearance a.obstacles.now l.rect-index _ c.loop-rect-test.true (rw c.dist_to_rect.ensures at c.if-not-dist_to_rect-clearance.true))
+    ∙ clear_stops a.px a.py a.clearance a.obstacles.now l.rect-index _ c.loop-rect-test.true
+    (rw c.dist_to_rect.ensures at c.if-not-dist_to_rect-clearance.true))
 
 pub loop-rect-preserved : goal.loop-rect-preserved
 loop-rect-preserved c =
     let a = c.args in
     let l = c.loop-rect in
     l.invariant
-    ∙ clear_goes_on a.px a.py a.clearance a.obstacles.now l.rect-index _ c.loop-rect-test.true (rw c.dist_to_rect.ensures at c.if-not-dist_to_rect-clearance.false)
+    ∙ clear_goes_on a.px a.py a.clearance a.obstacles.now l.rect-index _ c.loop-rect-test.true
+    (rw c.dist_to_rect.ensures at c.if-not-dist_to_rect-clearance.false)
 
 pub returns : goal.returns
 returns c =

@@ -1,8 +1,8 @@
 -- `is_finite` meets its contract.
--- Rests on the value of 1.0 / 0.0.
-use Rattle.glyphs.specs.Rect.{is_finite, infinite}
+-- Rests on the library's test being that of the definition.
+use Rattle.std.proofs.Common.{◌∙◌}
+use Rattle.glyphs.specs.Rect.{finite_test}
 use Rattle.glyphs.proofs.rect.is_finite.Goals as goal
 
 pub returns : goal.returns
-unfolding is_finite
-returns c = rw (infinite, c.abs.ensures)
+returns c = c.is_finite.ensures.value ∙ finite_test _

@@ -19,8 +19,8 @@ loop-k-preserved c =
     let s = spots_of a.spots.now in
     let q = c.spot in
     let h : l.k < length s = simp length_spots (omega arith) in
-    let own : near_count a.x a.y a.least (drop l.k s) ≡ bool_byte (not c.apart.result) + near_count a.x a.y a.least (drop (l.k + 1) s) =
-    rw (near_step _ _ _ s l.k q.result h, spots_at_lem a.spots.now l.k q.result (omega arith), ← q.ensures, ← c.apart.ensures) in
+    let own : near_count a.p a.least (drop l.k s) ≡ bool_byte (not c.apart.result) + near_count a.p a.least (drop (l.k + 1) s) =
+    rw (near_step _ _ s l.k q.result h, spots_at_lem a.spots.now l.k q.result (omega arith), ← q.ensures, ← c.apart.ensures) in
     (search rules, omega (arith, flag_le (not c.apart.result)), omega (arith, own))
 
 pub returns : goal.returns
@@ -28,4 +28,4 @@ returns c =
     let l = c.loop-k in
     let a = c.args in
     let s = spots_of a.spots.now in
-    omega (arith, near_end a.x a.y a.least s l.k (simp length_spots (omega arith)))
+    omega (arith, near_end a.p a.least s l.k (simp length_spots (omega arith)))

@@ -6,4 +6,6 @@ use Rattle.glyphs.proofs.spots.count_near.Given as goal
 
 abbrev pub invariant-loop-k : goal.invariant-loop-k
 invariant-loop-k l =
-    (l.n ≡ length l.spots / 2) × (l.count ≤ l.k) × (l.count + near_count l.x l.y l.least (drop l.k (spots_of l.spots)) ≡ near_count l.x l.y l.least (spots_of l.spots))
+    (l.n ≡ length l.spots / 2)
+    × (l.count ≤ l.k)
+    × (l.count + near_count l.p l.least (drop l.k (spots_of l.spots)) ≡ near_count l.p l.least (spots_of l.spots))

@@ -9,7 +9,8 @@ use Rattle.format.specs.RowLaws.{rows}
 use Rattle.format.proofs.NumberLaws.{uint_part}
 use Rattle.job.specs.Head.{lent_fault}
 use Rattle.job.proofs.head.open.Goals as goal
-use Rattle.job.proofs.head.open.Goals.{then-n-lt5-via-then-n-lt5, then-n-lt5-via-else-n-lt5+then-n-gt65536, then-n-lt5-via-else-n-lt5+else-n-gt65536+then-uint-n}
+use Rattle.job.proofs.head.open.Goals.{then-n-lt5-via-then-n-lt5, then-n-lt5-via-else-n-lt5+then-n-gt65536}
+use Rattle.job.proofs.head.open.Goals.{then-n-lt5-via-else-n-lt5+else-n-gt65536+then-uint-n}
 
 pub returns-then-n-lt5-clause-fault : goal.returns-then-n-lt5-clause-fault
 unfolding lent_fault

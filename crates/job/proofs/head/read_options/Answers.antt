@@ -10,7 +10,8 @@ use Rattle.discs.specs.declared.options.Radius.{Radius}
 use Rattle.format.specs.Rows.{◌unless◌, ◌or_else◌}
 use Rattle.format.specs.Numbers.{u8, u32, u8_in, u32_in, whole}
 use Rattle.format.specs.RowLaws.{or_else_assoc}
-use Rattle.job.specs.Head.{version_at, gap_at, boundary_kind_at, boundary_gap_at, precision_at, attempts_at, seed_at, number_after, choices_fault, measures_fault, head_fault, options_of}
+use Rattle.job.specs.Head.{version_at, gap_at, boundary_kind_at, boundary_gap_at, precision_at, attempts_at, seed_at, number_after, choices_fault}
+use Rattle.job.specs.Head.{measures_fault, head_fault, options_of}
 use Rattle.job.specs.HeadLaws.{same_options}
 use Rattle.job.proofs.Options.{boundary_is}
 use Rattle.job.proofs.Reading.{Left, went, stops, ends}

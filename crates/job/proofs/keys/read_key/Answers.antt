@@ -3,13 +3,15 @@
 use mathlib.Core.Bool.{true, false}
 use mathlib.Core.Path.{◌≡◌, refl, sym, ◌∙◌}
 use native.Mathlib.Omega.{arith}
-use Prim.Native.Nat.{◌+◌, ◌-◌}
-use lib.ListN.{take, drop}
+use Prim.Native.Nat.{◌+◌, ◌-◌, ◌≤◌}
+use lib.ListN.{length, take, drop}
 use Rattle.format.specs.Rows.{faults}
 use Rattle.format.specs.Numbers.{u8}
 use Rattle.format.specs.RowLaws.{faults_turn, faults_end, last_true, last_false}
+use Rattle.format.specs.NumberLaws.{item_passed}
 use Rattle.format.specs.RefusalLaws.{fails, passes, stopped, goes_first}
 use Rattle.job.specs.Zones.{letter_fault, next_byte, above, key_at, key_fault, count_at}
+use Rattle.job.specs.ZoneLaws.{letters_inside}
 use Rattle.job.proofs.ByteOrder.{gt_is}
 use Rattle.job.proofs.keys.read_key.Goals as goal
 use Rattle.job.proofs.keys.read_key.Goals.{After-gt-is_above}
@@ -38,6 +40,19 @@ returns-in_err-read_letter-clause-fault c =
     let r = c.from_residual-in_err-read_letter.ensures.1 in
     let e = stopped next_byte (letter_fault s) _ _ c.in_ok-n.n l._i l.job.at (omega arith) f l.invariant.2 r in
     passes _ _ o.fault (goes_first _ _ _ _ r (e ∙ rw (o.bytes, o.next, o.value.0)))
+
+pub slice_bounds-key-end : goal.slice_bounds-key-end
+slice_bounds-key-end c =
+    let l = c.loop-i in
+    let o = c.in_ok-n.ensures in
+    let j = c.item.new.self in
+    let s = j.bytes.now in
+    let n = c.in_ok-n.n in
+    let first = (item_passed 1 _ _ 1 32 9 (omega arith) (sym o.fault)).inside in
+    let whole : j.at ≤ length s = rw o.bytes (omega (arith, first, o.next)) in
+    let letters = faults_end next_byte (letter_fault s) n l._i l.job.at (omega arith) l.invariant.2 in
+    let end : l.job.at ≤ length s = omega (arith, letters_inside s n j.at whole (sym letters), l.invariant.1) in
+    rw l.invariant.0 end
 
 -- the letters are fine
 letters_are : (c : After-gt-is_above) → let j = c.args.job.now in 0 ≡ faults (letter_fault j.bytes.now) next_byte (u8 j.bytes.now j.at) (j.at + 1)

@@ -19,21 +19,21 @@ returns-in_err-read_obstacles-clause-fault g c =
     let o = c.in_ok-options.ensures in
     passes _ _ o.fault (fails _ _ _ _ (c.in_err-read_obstacles.ensures.fault ∙ rw (o.bytes, o.next)) c.from_residual-in_err-read_obstacles.ensures.1)
 
-pub returns-in_err-zones-clause-fault : goal.returns-in_err-zones-clause-fault
+pub returns-in_err-read_tail-clause-fault : goal.returns-in_err-read_tail-clause-fault
 unfolding items_fault obstacles_fault
-returns-in_err-zones-clause-fault g c =
+returns-in_err-read_tail-clause-fault g c =
     let o = c.in_ok-options.ensures in
     let b = c.in_ok-read_obstacles.ensures in
     passes _ _ o.fault
     (passes _ _ (b.fault ∙ rw (o.bytes, o.next))
-    (handed _ _ (c.in_err-zones.ensures.fault ∙ rw (b.bytes, o.bytes)) c.from_residual-in_err-zones.ensures.1))
+    (handed _ _ (c.in_err-read_tail.ensures.fault ∙ rw (b.bytes, o.bytes)) c.from_residual-in_err-read_tail.ensures.1))
 
 pub returns-clause-fault : goal.returns-clause-fault
 unfolding items_fault obstacles_fault
 returns-clause-fault g c =
     let o = c.in_ok-options.ensures in
     let b = c.in_ok-read_obstacles.ensures in
-    passes _ _ o.fault (passes _ _ (b.fault ∙ rw (o.bytes, o.next)) (c.in_ok-zones.ensures.fault ∙ rw (b.bytes, o.bytes)))
+    passes _ _ o.fault (passes _ _ (b.fault ∙ rw (o.bytes, o.next)) (c.in_ok-read_tail.ensures.fault ∙ rw (b.bytes, o.bytes)))
 
 pub read_tail-requires : goal.read_tail-requires
 unfolding obstacles_end
@@ -43,8 +43,11 @@ read_tail-requires g c =
     let r = c.requires in (
       search rules,
       (
-        b.next ∙ rw (b.bytes, o.bytes, o.next),
-        (rw (b.bytes, o.bytes) (omega (arith, b.next, r.start, r.coord_room)), (r.ring_room, (r.piece_room, r.row_room))),
+        search rules,
+        (
+          b.next ∙ rw (b.bytes, o.bytes, o.next),
+          (rw (b.bytes, o.bytes) (omega (arith, b.next, r.start, r.point_room)), (r.ring_room, (r.piece_room, r.row_room))),
+        ),
       ),
     )
 
@@ -53,4 +56,4 @@ unfolding obstacles
 returns-clause-read g c =
     let o = c.in_ok-options.ensures in
     let b = c.in_ok-read_obstacles.ensures in
-    record { choices = o.options; pillar = b.read ∙ rw (o.bytes, o.next); put = rw (b.bytes, o.bytes) at c.in_ok-zones.ensures.read }
+    record { choices = o.options; pillar = b.read ∙ rw (o.bytes, o.next); put = rw (b.bytes, o.bytes) at c.in_ok-read_tail.ensures.read }

@@ -38,10 +38,10 @@ count_is g c = rw c.requires.start at c.in_ok-n.ensures.value.0
 -- what the zones' reading ensures, at their place
 read : (g : Over) (c : In_ok-read_zones g) → let s = c.args.job.now.bytes.now in let n = u16 s (zones_at s) in let to = c.read_zones.new in
     (0 ≡ faults (zone_fault s) (zone_next s) n (first_zone s))
-    × ZonesPut s n (zones_at s + 2) c.args.pieces.now c.args.rows.now to.job.at to.pieces to.rows
+    × ZonesPut s n (zones_at s + 2) c.args.pieces.now c.args.rows.now.items to.job.at to.pieces to.rows.items
     × (length to.job.bytes.now ≡ length s)
 read g c =
-    let at = c.before.before.before.before.before.before.before in
+    let at = c.before.before.before.before.before.before in
     let p = counted g at in
     let u = count_is g at in
     let z = c.in_ok-read_zones.ensures in
@@ -75,8 +75,4 @@ returns-clause-fault g c =
 pub returns-clause-read : goal.returns-clause-read
 returns-clause-read g c =
     let e = goal.at.returns-clause-read g c in
-    let s = c.args.job.now.bytes.now in
-    let u = count_is g e.In_ok-n in
-    let z = read g e.In_ok-read_zones in
-    let few = c.in_ok-n.ensures.value.2 in
-    rw u (job_put s c.args.pieces.now c.args.rows.now _ c.read_zones.new.pieces c.read_zones.new.rows (omega (arith, u, few)) c.requires.row_room z.1)
+    job_put c.args.job.now.bytes.now c.args.pieces.now c.args.rows.now.items _ c.read_zones.new.pieces c.read_zones.new.rows.items (read g e.In_ok-read_zones).1

@@ -11,7 +11,8 @@ use Rattle.format.specs.Numbers.{u8, u16, u8_in, u16_in}
 use Rattle.format.specs.Pieces.{piece_fault, piece_end}
 use Rattle.format.specs.RowLaws.{row_has, row_lacks, or_else_assoc}
 use Rattle.format.specs.NumberLaws.{length_part}
-use Rattle.job.specs.Zones.{Place, key_at, key_fault, counts_fault, opening_fault, count_at, pieces_at, row_at, zone_fault, zone_next, zone_end, zone_coords, zone_sizes, zone_rings}
+use Rattle.job.specs.Zones.{Place, key_at, key_fault, counts_fault, opening_fault, count_at, pieces_at, row_at, zone_fault, zone_next, zone_end}
+use Rattle.job.specs.Zones.{zone_points, zone_sizes, zone_rings}
 use Rattle.job.specs.ZoneLaws.{key_inside, count_at_lem}
 use Rattle.job.specs.Steps.{place_of}
 use Rattle.job.proofs.Reading.{Left, went, stops, ends}
@@ -110,13 +111,19 @@ read_pieces-requires g c =
     let p = numbered g (goal.at.read_pieces-requires g c).In_ok-item in
     let r = c.requires in
     let n = c.in_ok-item.ensures.value.2 in
-    (search rules, (rw p.of (omega (arith, r.coord_room, p.is)), (omega (arith, r.ring_room, n), omega (arith, r.piece_room, n))))
+    (search rules, (rw p.of (omega (arith, r.point_room, p.is)), (omega (arith, r.ring_room, n), omega (arith, r.piece_room, n))))
 
 -- the number of pieces that was read
 number_is : (g : Over) (c : In_ok-item g) → let j = c.args.job.now in c.in_ok-item.field-0 ≡ pieces_at j.bytes.now j.at
 number_is g c =
     let p = counted g c.before.before.before.before.before.before in
     rw (p.of, p.is) at c.in_ok-item.ensures.value.0
+
+pub overflow_add-row : goal.overflow_add-row
+overflow_add-row g c =
+    let j = c.args.job.now in
+    let l = key_inside j.bytes.now j.at _ (sym c.in_ok-before.ensures.fault) in
+    omega (arith, l)
 
 pub returns-in_err-read_pieces-clause-fault : goal.returns-in_err-read_pieces-clause-fault
 returns-in_err-read_pieces-clause-fault g c =
@@ -131,7 +138,7 @@ returns-clause-fault g c =
     rw (p.of, p.is, number_is g at) at c.in_ok-read_pieces.ensures.fault ∙ p.rows
 
 pub returns-clause-read : goal.returns-clause-read
-unfolding zone_end zone_coords zone_sizes zone_rings row_at zone_next
+unfolding zone_end zone_points zone_sizes zone_rings row_at zone_next
 returns-clause-read g c =
     let e = goal.at.returns-clause-read g c in
     let p = numbered g e.In_ok-item in
@@ -143,7 +150,7 @@ returns-clause-read g c =
     let at = c.args.job.now.at in
     let l : length (key_at s at) ≡ u8 s at = unfold key_at in length_part s (at + 1) (u8 s at) (key_inside s at _ (sym o.fault)) in
     record {
-      put = record { at = r.at; few = omega (arith, r.few, count_at_lem s at); coords = r.coords; sizes = r.sizes; rings = r.rings };
+      put = record { at = r.at; few = omega (arith, r.few, count_at_lem s at); points = r.points; sizes = r.sizes; rings = r.rings };
       numbers = rw (o.key, l, u, v);
       place = rw (r.at, o.key, u);
     }

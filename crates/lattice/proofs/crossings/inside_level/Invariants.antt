@@ -4,6 +4,7 @@ use Rattle.std.proofs.Common.{◌≡◌, not, drop, length}
 use Rattle.lattice.specs.Crossings.{odd_any, inside_level, Ascend}
 use Rattle.lattice.proofs.crossings.inside_level.Given as goal
 
-abbrev pub invariant-loop-k : goal.invariant-loop-k
-invariant-loop-k l =
-    Ascend (length l.crossings) l.from (drop l.k l.ends) × (inside_level l.x l.crossings l.ends ≡ not (odd_any l.x l.crossings l.from (drop l.k l.ends)))
+abbrev pub invariant-loop-to : goal.invariant-loop-to
+invariant-loop-to l =
+    let left = drop l.to-index l.to-items in
+    Ascend (length l.crossings) l.from left × (inside_level l.x l.crossings l.ends ≡ not (odd_any l.x l.crossings l.from left))

@@ -1,6 +1,6 @@
 -- `put_ring` meets its contract. The invariant: the edges visited so far are added.
 -- Rests on the laws of a ring's edges in turn.
-use Rattle.std.proofs.Common.{◌/◌, length, take, refl, arith}
+use Rattle.std.proofs.Common.{length, take, refl, arith}
 use Rattle.lattice.specs.Edges.{edge_at, Added, after_none, after_next, ring_short, ring_added}
 use Rattle.lattice.proofs.edges.put_ring.Goals as goal
 
@@ -18,7 +18,7 @@ pub loop-i-preserved : goal.loop-i-preserved
 loop-i-preserved c =
     let l = c.loop-i in
     let a = c.args in
-    let added : Added a.y a.reach (edge_at a.ring.now (length a.ring.now / 2) l.i) (take l.m l.edges) (take c.in_ok-m.m c.put_near.new.edges) =
+    let added : Added a.y a.reach (edge_at a.ring.now (length a.ring.now) l.i) (take l.m l.edges) (take c.in_ok-m.m c.put_near.new.edges) =
     rw (← c.edge_at.ensures) c.in_ok-m.ensures.1 in
     (refl, c.in_ok-m.ensures.0, after_next a.y a.reach a.ring.now _ l.i (take a.start a.edges.now) (take l.m l.edges) _ l.invariant.2 added)
 

@@ -2,7 +2,7 @@
 -- Rests on the laws of comparisons one after another.
 use Rattle.std.proofs.Common.{sym, ap, ◌∙◌}
 use Rattle.float.specs.Total.{total_key}
-use Rattle.lattice.specs.Escape.{squared_distance}
+use Rattle.glyphs.specs.Spots.{squared_distance}
 use Rattle.lattice.specs.Keys.{key_differs, key_same, key_last}
 use Rattle.lattice.specs.Lattice.{by_anchor}
 use Rattle.lattice.proofs.nearest.precedes.Goals as goal

@@ -1,6 +1,5 @@
 -- `row_at` meets its contract: the cells of the row of a rank.
 -- Rests on the contracts of its calls.
-use Rattle.std.proofs.Common.{ap, ◌∙◌}
 use Rattle.lattice.specs.Rows.{row_of}
 use Rattle.lattice.proofs.rows.row_at.Goals as goal
 

@@ -12,20 +12,3 @@ overflow_cast-answer-in-Ok c = omega (arith, (small _ _ _ _ _ c.in-Ok.ensures.an
 
 pub overflow_cast-result : goal.overflow_cast-result
 overflow_cast-result c = omega (arith, (small _ _ _ _ _ c.in-Ok.ensures.answer).0)
-
-pub returns-in-Ok : goal.returns-in-Ok
-returns-in-Ok c =
-    let p = c.in-Ok.ensures in
-    record { length = rw (← p.answer); answer = rw (← p.answer); first = p.first; second = p.second; sheet = p.sheet; kept = rw (← p.answer) p.kept }
-
-pub returns-in-Err : goal.returns-in-Err
-returns-in-Err c =
-    let p = c.in-Err.ensures in
-    record {
-      length = rw (← p.answer);
-      answer = rw (← p.answer, c.from.ensures);
-      first = p.first;
-      second = p.second;
-      sheet = p.sheet;
-      kept = rw (← p.answer) p.kept;
-    }

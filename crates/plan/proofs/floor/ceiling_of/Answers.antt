@@ -12,7 +12,7 @@ returns-in-Stated c = rw c.in-Stated.is
 pub analytic_r_hi-requires : goal.analytic_r_hi-requires
 analytic_r_hi-requires c =
     let z = c.args.zones in
-    rows_stand z.bytes.now z.rings.now z.sizes.now z.coords.now z.quotas.now z.deepest.now z.rows.now start z.floor
+    rows_stand z.bytes.now z.layout.rings.now z.layout.sizes.now z.layout.points.now z.quotas.now z.deepest.now z.layout.rows.now start z.floor
 
 pub returns-in-Auto : goal.returns-in-Auto
 unfolding ceiling_for

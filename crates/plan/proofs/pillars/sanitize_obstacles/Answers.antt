@@ -10,9 +10,6 @@ pub loop-rect-init : goal.loop-rect-init
 unfolding sanitize_obstacles
 loop-rect-init g c = (omega arith, refl)
 
-pub push-requires : goal.push-requires
-push-requires g c = omega (arith, c.requires, c.loop-rect.invariant.0, c.loop-rect-test.true)
-
 pub loop-rect-preserved : goal.loop-rect-preserved
 loop-rect-preserved g c =
     let l = c.loop-rect in

@@ -16,12 +16,12 @@ pub loop-k-init : goal.loop-k-init
 loop-k-init c =
     let z = c.zip-k-items.ensures in
     let e = c.into_iter-k-iterator.ensures.into_iter_gives in
-    let n = length_pieces c.args.pieces.rings.now c.args.pieces.sizes.now c.args.pieces.coords.now in
+    let n = length_pieces c.args.pieces.rings.now c.args.pieces.sizes.now c.args.pieces.points.now in
     let pieces = c.zip.ensures.first in
     let quotas = c.zip.ensures.second.0 in (
       refl,
-      rw (e, z.first, n) refl,
-      rw (e, z.first, z.second, pieces) refl,
+      rw (e, z.first) (sym n),
+      rw (e, z.first, z.second, pieces) (omega arith),
       rw (e, z.second, pieces, quotas),
       rw (e, z.first, z.second, pieces, quotas),
     )
@@ -30,7 +30,7 @@ pub offset_bounds-deepest-k : goal.offset_bounds-deepest-k
 offset_bounds-deepest-k c =
     let s = c.in-Some.ensures.steps in
     let i = c.loop-k.invariant in
-    let n = length_pieces c.args.pieces.rings.now c.args.pieces.sizes.now c.args.pieces.coords.now in
+    let n = length_pieces c.args.pieces.rings.now c.args.pieces.sizes.now c.args.pieces.points.now in
     let fits : c.in-Some.k < length c.loop-k.deepest = omega (arith, s.0, i.0, i.1, n, c.requires) in
     search rules
 
@@ -50,7 +50,7 @@ pub bounds-deepest-k : goal.bounds-deepest-k
 bounds-deepest-k c =
     let s = c.in-Some.ensures.steps in
     let i = c.loop-k.invariant in
-    let n = length_pieces c.args.pieces.rings.now c.args.pieces.sizes.now c.args.pieces.coords.now in
+    let n = length_pieces c.args.pieces.rings.now c.args.pieces.sizes.now c.args.pieces.points.now in
     omega (arith, s.0, i.0, i.1, n, c.requires)
 
 pub loop-k-preserved : goal.loop-k-preserved

@@ -16,10 +16,10 @@ use Rattle.plan.proofs.searches.search_pieces.Given as goal
 abbrev pub invariant-loop-k : goal.invariant-loop-k
 invariant-loop-k l =
     (length l.deepest ≡ length l.initial.deepest)
-    × ((zip_first l.k-iterator).end ≡ l.start + length (pieces_left l.pieces))
-    × ((zip_first l.k-iterator).start + length (pieces_left (zip_first (zip_second l.k-iterator))) ≡ l.start + length (pieces_left l.pieces))
+    × ((zip_first l.k-iterator).end ≡ length (pieces_left l.pieces))
+    × ((zip_first l.k-iterator).start + length (pieces_left (zip_first (zip_second l.k-iterator))) ≡ length (pieces_left l.pieces))
     × (all had_room (found_in l.options true (pieces_left l.pieces) l.quotas)
     ≡ all had_room (found_in l.options true (pieces_left (zip_first (zip_second l.k-iterator))) (iter_rest (zip_second (zip_second l.k-iterator)))))
-    × (sets l.initial.deepest l.start (found_in l.options true (pieces_left l.pieces) l.quotas)
+    × (sets l.initial.deepest 0 (found_in l.options true (pieces_left l.pieces) l.quotas)
     ≡ sets l.deepest (zip_first l.k-iterator).start
     (found_in l.options true (pieces_left (zip_first (zip_second l.k-iterator))) (iter_rest (zip_second (zip_second l.k-iterator)))))

@@ -3,20 +3,17 @@
 use mathlib.Core.Path.{◌≡◌}
 use lib.ListN.{length}
 use lib.Seq.{sets}
-use Rattle.discs.specs.Floor.{EachRow}
-use Rattle.plan.specs.Rows.{Readable, flat_rows, all_rows}
+use Rattle.plan.specs.Rows.{flat_rows, all_rows}
 use Rattle.plan.specs.Bundled.{zone_fits, zone_found, all_fit, all_found}
 use Rattle.plan.proofs.searches.search_zones.Given as goal
 
 abbrev pub invariant-loop-zone : goal.invariant-loop-zone
 invariant-loop-zone l =
-    let rings = l.layout.rings.now in
-    let sizes = l.layout.sizes.now in
+    let rings = l.job.layout.rings.now in
+    let sizes = l.job.layout.sizes.now in
     let left = l.zone-iterator in
-    (left.rings.now ≡ rings)
-    × (left.sizes.now ≡ sizes)
+    (left.layout ≡ l.job.layout)
     × (length l.deepest ≡ length l.initial.deepest)
-    × EachRow rings sizes (Readable rings sizes l.layout.coords.now) left.rows.now left.at
-    × (all_fit l.layout l.options l.quotas ≡ all_rows rings sizes (zone_fits l.layout l.options l.quotas) left.rows.now left.at)
-    × (sets l.initial.deepest 0 (all_found l.layout l.options l.quotas)
-    ≡ sets l.deepest left.at.piece (flat_rows rings sizes (zone_found l.layout l.options l.quotas) left.rows.now left.at))
+    × (all_fit l.job.layout l.job.options l.quotas ≡ all_rows rings sizes (zone_fits l.job.layout l.job.options l.quotas) left.rows.now left.at)
+    × (sets l.initial.deepest 0 (all_found l.job.layout l.job.options l.quotas)
+    ≡ sets l.deepest left.at.piece (flat_rows rings sizes (zone_found l.job.layout l.job.options l.quotas) left.rows.now left.at))

@@ -10,11 +10,10 @@ use Rattle.plan.proofs.shares.share_zones.Given as goal
 
 abbrev pub invariant-loop-zone : goal.invariant-loop-zone
 invariant-loop-zone l =
-    let rings = l.layout.rings.now in
-    let sizes = l.layout.sizes.now in
+    let rings = l.job.layout.rings.now in
+    let sizes = l.job.layout.sizes.now in
     let left = l.zone-iterator in
-    (left.rings.now ≡ rings)
-    × (left.sizes.now ≡ sizes)
+    (left.layout ≡ l.job.layout)
     × (length l.quotas ≡ length l.initial.quotas)
-    × EachRow rings sizes (Readable rings sizes l.layout.coords.now) left.rows.now left.at
-    × (sets l.initial.quotas 0 (all_shares l.layout) ≡ sets l.quotas left.at.piece (flat_rows rings sizes (zone_shares l.layout) left.rows.now left.at))
+    × EachRow rings sizes (Readable rings sizes l.job.layout.points.now) left.rows.now left.at
+    × (sets l.initial.quotas 0 (all_shares l.job.layout) ≡ sets l.quotas left.at.piece (flat_rows rings sizes (zone_shares l.job.layout) left.rows.now left.at))

@@ -8,23 +8,16 @@ use Rattle.plan.specs.Rows.{length_cut}
 use Rattle.plan.specs.Bytes.{placement_put}
 use Rattle.plan.proofs.zones.put_placement.Goals as goal
 
-pub put_zone-from-requires : goal.put_zone-from-requires
-put_zone-from-requires c =
-    let a = c.args in
-    rw (c.part.ensures, length_cut a.row.key a.row.len a.s.now c.requires.key) (omega (arith, c.requires.room))
-
 pub put_spots-requires : goal.put_spots-requires
 put_spots-requires c =
     let a = c.args in
-    let from = rw (c.part.ensures, length_cut a.row.key a.row.len a.s.now c.requires.key) at c.put_zone-from.ensures.0 in
-    rw (length_cut 0 (a.placed * 2) a.spots.now (omega (arith, c.requires.spots)), c.put_zone-from.ensures.1)
+    let z = c.put_zone.ensures in
+    let from = rw (c.part.ensures, length_cut a.row.key a.row.len a.s.now c.requires.key) at z.at in
+    rw (length_cut 0 (a.placed * 2) a.spots.now (omega (arith, c.requires.spots)), z.put.put)
     (simp length-sets (omega (arith, from, c.requires.room)))
 
 pub returns : goal.returns
 returns c =
     let a = c.args in
     let p = c.requires in
-    let k = c.part.ensures in
-    let z = c.put_zone-from.ensures in
-    let from = rw (k, length_cut a.row.key a.row.len a.s.now p.key) at z.0 in
-    placement_put a.s.now a.row a.placed a.spots.now p.key p.spots a.sheet.now _ _ a.at _ _ from (rw k at z.1) refl c.put_spots.ensures
+    placement_put a.s.now a.row a.placed a.spots.now p.key p.spots _ refl (rw c.part.ensures at c.put_zone.ensures.put) c.put_spots.ensures.put

@@ -8,38 +8,27 @@ use lib.ListN.{length}
 use Rattle.laws.specs.Lists.{length_written}
 use Rattle.glyphs.specs.Spots.{flat}
 use Rattle.discs.specs.Joined.{length_joined}
-use Rattle.discs.specs.Bundles.{work_same}
 use Rattle.plan.specs.Placing.{Fair}
 use Rattle.plan.specs.Bundled.{zone_spots}
 use Rattle.plan.specs.Bytes.{room_in, bytes_count, bytes_out, none_out, one_in, bytes_in}
 use Rattle.plan.proofs.zones.put_row.Goals as goal
 
-pub returns-then-not-is_left_in : goal.returns-then-not-is_left_in
-returns-then-not-is_left_in c =
+pub returns-then-not-is_left_in-clause-put : goal.returns-then-not-is_left_in-clause-put
+returns-then-not-is_left_in-clause-put c =
     let a = c.args in
     let p = a.setting.packing in
     let n = a.zones in
     let e = sym c.is_left_in.ensures ∙ c.if-not-is_left_in.true in
     let none =
     none_out p.numbers a.setting.size p.options p.obstacles.now
-    n.bytes.now n.rings.now n.sizes.now n.coords.now n.quotas.now n.deepest.now a.zone.row a.zone.at e in
-    record {
-      put =
-          bytes_out p.numbers a.setting.size p.options p.obstacles.now
-          n.bytes.now n.rings.now n.sizes.now n.coords.now n.quotas.now n.deepest.now a.zone.row a.zone.at a.done.at a.sheet.now e;
-      counted = omega (arith, none);
-      room = omega arith;
-      one = omega arith;
-      same = work_same a.work.now;
-    }
+    n.bytes.now n.layout.rings.now n.layout.sizes.now n.layout.points.now n.quotas.now n.deepest.now a.zone.row a.zone.at e in
+    rw none
+    (bytes_out p.numbers a.setting.size p.options p.obstacles.now
+    n.bytes.now n.layout.rings.now n.layout.sizes.now n.layout.points.now n.quotas.now n.deepest.now a.zone.row a.zone.at a.writer.now e)
 
-pub place_zone-placed-requires : goal.place_zone-placed-requires
-place_zone-placed-requires c =
-    record { zone = c.requires.zone; near = c.requires.near; left_in = sym c.is_left_in.ensures ∙ c.if-not-is_left_in.false }
-
-pub put_placement-to-requires : goal.put_placement-to-requires
+pub put_placement-requires : goal.put_placement-requires
 unfolding Fair
-put_placement-to-requires c =
+put_placement-requires c =
     let a = c.args in
     let p = c.requires in
     let e = sym c.is_left_in.ensures ∙ c.if-not-is_left_in.false in
@@ -56,9 +45,6 @@ put_placement-to-requires c =
       placed = omega (arith, z.counted, most);
       spots = omega (arith, z.counted, most, long, p.zone.stands.marks, room);
     }
-
-pub overflow_add-result : goal.overflow_add-result
-overflow_add-result c = record { fits = omega (arith, c.requires.zones) }
 
 pub returns : goal.returns
 unfolding Fair
@@ -77,21 +63,19 @@ returns c =
     ∙ length_written (flat (flatten all)) a.work.now.spots.now (omega (arith, length_joined all, most, p.zone.stands.marks, room)) in
     let same =
     bytes_in k.numbers a.setting.size k.options k.obstacles.now
-    n.bytes.now n.rings.now n.sizes.now n.coords.now n.quotas.now n.deepest.now a.zone.row a.zone.at
+    n.bytes.now n.layout.rings.now n.layout.sizes.now n.layout.points.now n.quotas.now n.deepest.now a.zone.row a.zone.at
     c.place_zone-placed.result a.work.now.spots.now _ e z.counted z.spots in
     let b =
     bytes_count k.numbers a.setting.size k.options k.obstacles.now
-    n.bytes.now n.rings.now n.sizes.now n.coords.now n.quotas.now n.deepest.now a.zone.row a.zone.at
+    n.bytes.now n.layout.rings.now n.layout.sizes.now n.layout.points.now n.quotas.now n.deepest.now a.zone.row a.zone.at
     c.place_zone-placed.result a.work.now.spots.now _ e z.counted z.spots p.zone.key
     (omega (arith, z.counted, most, long, p.zone.stands.marks, room)) in
     let one =
     one_in k.numbers a.setting.size k.options k.obstacles.now
-    n.bytes.now n.rings.now n.sizes.now n.coords.now n.quotas.now n.deepest.now a.zone.row a.zone.at e in
-    let w = rw same at c.put_placement-to.ensures in
+    n.bytes.now n.layout.rings.now n.layout.sizes.now n.layout.points.now n.quotas.now n.deepest.now a.zone.row a.zone.at e in
+    let w = rw (same, ← one) at c.put_placement.ensures in
     record {
       put = w;
-      counted = omega (arith, one);
-      room = omega (arith, w.ends, b, z.counted, most, room_in a.zone.row e);
-      one = omega arith;
+      room = omega (arith, w.at, b, z.counted, most, room_in a.zone.row e);
       same = record { lent = z.same.lent; spots = z.same.spots; spots_long = search rules };
     }

@@ -13,19 +13,19 @@ use Rattle.plan.proofs.zones.put_zones.Given as goal
 
 abbrev pub invariant-loop-zone : goal.invariant-loop-zone
 invariant-loop-zone l =
-    let rings = l.zones.rings.now in
-    let sizes = l.zones.sizes.now in
+    let rings = l.zones.layout.rings.now in
+    let sizes = l.zones.layout.sizes.now in
     let left = l.zone-iterator in
     let bytes_left = flat_rows rings sizes (zone_bytes l.setting l.zones) left.rows.now left.at in
     let zones_left = flat_rows rings sizes (zone_placed l.setting l.zones) left.rows.now left.at in
-    (left.rings.now ≡ rings)
-    × (left.sizes.now ≡ sizes)
+    let w = l.initial.writer in
+    (left.layout ≡ l.zones.layout)
     × SameWork l.initial.work l.work
-    × (length l.sheet ≡ length l.initial.sheet)
-    × (l.done.zones + length left.rows.now ≤ length l.zones.rows.now)
+    × (l.writer.sheet.ghost_name ≡ w.sheet.ghost_name)
+    × (length l.writer.sheet.now ≡ length w.sheet.now)
     × EachRow rings sizes (IsPackable l.zones) left.rows.now left.at
     × EachRow rings sizes (ZoneFair l.setting l.zones) left.rows.now left.at
-    × (l.done.at + rows_room left.rows.now ≤ 15 + rows_room l.zones.rows.now)
-    × (15 + length (all_bytes l.setting l.zones) ≡ l.done.at + length bytes_left)
-    × (length (all_placed l.setting l.zones) ≡ l.done.zones + length zones_left)
-    × (sets l.initial.sheet 15 (all_bytes l.setting l.zones) ≡ sets l.sheet l.done.at bytes_left)
+    × (l.writer.at + rows_room left.rows.now ≤ w.at + rows_room l.zones.layout.rows.now)
+    × (w.at + length (all_bytes l.setting l.zones) ≡ l.writer.at + length bytes_left)
+    × (w.zones + length (all_placed l.setting l.zones) ≡ l.writer.zones + length zones_left)
+    × (sets w.sheet.now w.at (all_bytes l.setting l.zones) ≡ sets l.writer.sheet.now l.writer.at bytes_left)

@@ -21,8 +21,14 @@ twice t = go (t <ᶠ 0ᶠ)
 pub returns-then-len2 : goal.returns-then-len2
 unfolding along
 returns-then-len2 c =
-    let from : c.if-t.from ≡ cond (c.args.dot /ᶠ c.args.len2 <ᶠ 0ᶠ) 0ᶠ (c.args.dot /ᶠ c.args.len2) = elim c.if-t.branch [ then-t w ↦ rw w.if-t.true w.from-is | else-t w ↦ rw w.if-t.false w.from-is ] in
-    let held : c.if-from.held ≡ cond (1ᶠ <ᶠ c.if-t.from) 1ᶠ c.if-t.from = elim c.if-from.branch [ then-from w ↦ rw w.if-from.true w.held-is | else-from w ↦ rw w.if-from.false w.held-is ] in
+    let from : c.if-t.from ≡ cond (c.args.dot /ᶠ c.args.len2 <ᶠ 0ᶠ) 0ᶠ (c.args.dot /ᶠ c.args.len2) = elim c.if-t.branch [
+      | then-t w ↦ rw w.if-t.true w.from-is
+      | else-t w ↦ rw w.if-t.false w.from-is
+    ] in
+    let held : c.if-from.held ≡ cond (1ᶠ <ᶠ c.if-t.from) 1ᶠ c.if-t.from = elim c.if-from.branch [
+      | then-from w ↦ rw w.if-from.true w.held-is
+      | else-from w ↦ rw w.if-from.false w.held-is
+    ] in
     rw c.if-len2.true
     (held ∙ ap (λ (x : Float). cond (1ᶠ <ᶠ x) 1ᶠ x) from ∙ twice (c.args.dot /ᶠ c.args.len2))
 

@@ -8,7 +8,7 @@ use native.Mathlib.Numerals.{add-one}
 use borrow.Author.Rules.{rules}
 use borrow.Author.Tests.{lt-ltb}
 use lib.ListN.{length}
-use Rattle.glyphs.specs.Points.{x_at, y_at}
+use Rattle.glyphs.specs.Points.{vertex_at}
 use Rattle.regions.specs.Squares.{least_after, least_from, least_of_ring, infinite}
 use Rattle.regions.specs.Least.{of_halves}
 use Rattle.regions.specs.Walk.{next_is, in_first, in_second, its_square}
@@ -21,9 +21,9 @@ returns-then-n-lt2 c = rw (lt-ltb _ _ c.if-n-lt2.true)
 pub loop-i-init : goal.loop-i-init
 unfolding least_after least_from
 loop-i-init c =
-    let n = length c.args.ring.now / 2 in
+    let n = length c.args.ring.now in
     let e : n / 2 + 0 ≡ n / 2 = omega arith in
-    (search rules, refl, refl, refl, infinite, c.vx-ax.ensures, c.vy-ay.ensures, λ h. rw e (c.vx-bx.ensures, c.vy-by.ensures))
+    (search rules, refl, refl, refl, infinite, refl, λ h. rw e refl)
 
 pub loop-i-preserved : goal.loop-i-preserved
 unfolding least_after least_from
@@ -31,26 +31,21 @@ loop-i-preserved c =
     let l = c.loop-i in
     let a = c.args in
     let ring = a.ring.now in
-    let n = length ring / 2 in
+    let n = length ring in
     let e = next_is n l.i (in_first n l.i c.loop-i-test.true) in
-    let b = l.invariant.7 (in_second n l.i c.loop-i-test.true) in
-    let cx = c.vx-cx.ensures in
-    let cy = c.vy-cy.ensures in
-    let dx = c.vx-dx.ensures ∙ ap (x_at ring) c.after-k.ensures.0 in
-    let dy = c.vy-dy.ensures ∙ ap (y_at ring) c.after-k.ensures.0 in
-    let nx = cx ∙ ap (x_at ring) (sym e) in
-    let ny = cy ∙ ap (y_at ring) (sym e) in (
+    let b = l.invariant.6 (in_second n l.i c.loop-i-test.true) in
+    let next = ap (vertex_at ring) (sym e) in
+    let other = ap (vertex_at ring) c.after.ensures.0 in (
       search rules,
       refl,
       refl,
-      rw (add-one, ← l.invariant.3, ← its_square a.px a.py ring n l.i _ _ _ _ l.invariant.5 l.invariant.6 nx ny) c.closer_edge-best.ensures,
-      rw (add-one, ← l.invariant.4, ← its_square a.px a.py ring n (n / 2 + l.i) _ _ _ _ b.0 b.1 dx dy) c.closer_edge-other.ensures,
-      cx,
-      cy,
+      rw (add-one, ← l.invariant.3, ← its_square a.px a.py ring n l.i _ _ l.invariant.5 next) c.closer_edge-best.ensures,
+      rw (add-one, ← l.invariant.4, ← its_square a.px a.py ring n (n / 2 + l.i) _ _ b other) c.closer_edge-other.ensures,
+      refl,
       λ h.
           let f : n / 2 + (l.i + 1) ≡ n / 2 + l.i + 1 = omega arith in
           let g = next_is n (n / 2 + l.i) (rw f at h) in
-          rw f (dx ∙ ap (x_at ring) g, dy ∙ ap (y_at ring) g),
+          rw f (other ∙ ap (vertex_at ring) g),
     )
 
 pub with_last-requires : goal.with_last-requires
@@ -59,7 +54,7 @@ with_last-requires c = (search rules, cc (le_antisymm c.loop-i.invariant.0 c.loo
 pub returns : goal.returns
 returns c =
     let a = c.args in
-    let n = length a.ring.now / 2 in
+    let n = length a.ring.now in
     let done = le_antisymm c.loop-i.invariant.0 c.loop-i-test.false in
     c.lesser.ensures
     ∙ rw (c.with_last.ensures, c.loop-i.invariant.3, done) (of_halves a.px a.py a.start a.ring.now (n / 2) c.if-n-lt2.false (search rules))

@@ -23,10 +23,14 @@ whole x y square root inside piece e f g h = rw (h, f, e, g, least_root)
 pub returns : goal.returns
 unfolding at
 returns c first =
-    whole _ _ _ _ _ _ (rw c.rings.ensures at c.rings_squares-squares.ensures first) (root 0 c.each_root.ensures) (c.in_piece-inside.ensures first) c.negate_unless.ensures
+    whole _ _ _ _ _ _ (rw c.rings.ensures at c.rings_squares-squares.ensures first) (root 0 c.each_root.ensures)
+    (c.in_piece-inside.ensures first) c.negate_unless.ensures
 returns c second =
-    whole _ _ _ _ _ _ (rw c.rings.ensures at c.rings_squares-squares.ensures second) (root 1 c.each_root.ensures) (c.in_piece-inside.ensures second) c.negate_unless-2.ensures
+    whole _ _ _ _ _ _ (rw c.rings.ensures at c.rings_squares-squares.ensures second) (root 1 c.each_root.ensures)
+    (c.in_piece-inside.ensures second) c.negate_unless-2.ensures
 returns c third =
-    whole _ _ _ _ _ _ (rw c.rings.ensures at c.rings_squares-squares.ensures third) (root 2 c.each_root.ensures) (c.in_piece-inside.ensures third) c.negate_unless-3.ensures
+    whole _ _ _ _ _ _ (rw c.rings.ensures at c.rings_squares-squares.ensures third) (root 2 c.each_root.ensures)
+    (c.in_piece-inside.ensures third) c.negate_unless-3.ensures
 returns c fourth =
-    whole _ _ _ _ _ _ (rw c.rings.ensures at c.rings_squares-squares.ensures fourth) (root 3 c.each_root.ensures) (c.in_piece-inside.ensures fourth) c.negate_unless-4.ensures
+    whole _ _ _ _ _ _ (rw c.rings.ensures at c.rings_squares-squares.ensures fourth) (root 3 c.each_root.ensures)
+    (c.in_piece-inside.ensures fourth) c.negate_unless-4.ensures

@@ -10,4 +10,6 @@ abbrev pub invariant-loop-hole : goal.invariant-loop-hole
 invariant-loop-hole l =
     (goal.iterator-loop-hole).can_next l.hole-iterator
     × (goal.iterator-loop-hole).is_finite l.hole-iterator
-    × ((k : Which) → within (at k l.xs) (at k l.ys) (rings_of l.piece) ≡ at k l.inside && not (in_any (at k l.xs) (at k l.ys) (rings_left l.hole-iterator)))
+    × ((k : Which)
+    → within (at k l.places).x (at k l.places).y (rings_of l.piece)
+    ≡ at k l.inside && not (in_any (at k l.places).x (at k l.places).y (rings_left l.hole-iterator)))

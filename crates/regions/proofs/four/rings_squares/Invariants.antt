@@ -11,4 +11,6 @@ abbrev pub invariant-loop-ring : goal.invariant-loop-ring
 invariant-loop-ring l =
     (goal.iterator-loop-ring).can_next l.ring-iterator
     × (goal.iterator-loop-ring).is_finite l.ring-iterator
-    × ((k : Which) → least_of_rings (at k l.xs) (at k l.ys) (rings_left l.rings) ≡ foldl (least_of_ring (at k l.xs) (at k l.ys)) (at k l.best) (rings_left l.ring-iterator))
+    × ((k : Which)
+    → least_of_rings (at k l.places).x (at k l.places).y (rings_left l.rings)
+    ≡ foldl (least_of_ring (at k l.places).x (at k l.places).y) (at k l.best) (rings_left l.ring-iterator))

@@ -7,7 +7,7 @@ use Rattle.regions.proofs.four.turned_all.Goals as goal
 
 pub returns-then-on_one_side_of_all : goal.returns-then-on_one_side_of_all
 unfolding flip
-returns-then-on_one_side_of_all c k = let a = c.args in rw (same_side (at k a.xs) (at k a.ys) a.xi a.yi a.xj a.yj (c.on_one_side_of_all.ensures c.if-on_one_side_of_all.true k))
+returns-then-on_one_side_of_all c k = rw (same_side _ _ _ _ _ _ (c.on_one_side_of_all.ensures c.if-on_one_side_of_all.true k))
 
 pub returns : goal.returns
 unfolding at

@@ -1,6 +1,5 @@
 -- `point_in_polygon` meets its contract. The invariant: the flag is that of the definition after the turns of the blocks.
 -- Rests on the law of the first turn and the contracts of what it calls.
-use Prim.Native.Nat.{◌/◌}
 use lib.ListN.{length}
 use borrow.Author.Tests.{lt-ltb, le-ltb}
 use Rattle.regions.specs.Inside.{point_in_polygon}
@@ -14,7 +13,7 @@ returns-then-n-lt3 c = rw (lt-ltb _ _ c.if-n-lt3.true)
 pub loop-block-init : goal.loop-block-init
 loop-block-init c =
     let a = c.args in
-    cc (first_turn a.x a.y a.v.now (length a.v.now / 2))
+    cc (first_turn a.x a.y a.v.now (length a.v.now))
 
 pub returns : goal.returns
 unfolding point_in_polygon

@@ -24,8 +24,10 @@ returns-then-best-low c =
     let rings = rings_left a.rings in
     let b = c.ring_square-best.result in
     let good : Good b = subst Good (sym c.ring_square-best.ensures) (ring_good _ _ _ _ c.loop-ring.invariant.2) in
-    let left : least_of_rings a.px a.py rings ≡ foldl (least_of_ring a.px a.py) b (rings_left c.next.new.self) = rw (c.loop-ring.invariant.3, c.in-Some.ensures.steps, c.ring_square-best.ensures) in
-    let falls : T (le (least_of_rings a.px a.py rings) b) = subst (λ (x : Float). T (le x b)) (sym left) (rings_fall a.px a.py b (rings_left c.next.new.self) good) in
+    let others = rings_left c.next.new.self in
+    let left : least_of_rings a.px a.py rings ≡ foldl (least_of_ring a.px a.py) b others =
+    rw (c.loop-ring.invariant.3, c.in-Some.ensures.steps, c.ring_square-best.ensures) in
+    let falls : T (le (least_of_rings a.px a.py rings) b) = subst (λ (x : Float). T (le x b)) (sym left) (rings_fall a.px a.py b others good) in
     sym
     (ap (λ (x : Float). a.margin.least ≤ᶠ x) (least_root a.px a.py rings)
     ∙ low_square_below a.margin.least _

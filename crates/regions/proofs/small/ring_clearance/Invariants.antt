@@ -4,7 +4,7 @@ use Prim.Native.Nat.{◌+◌, ◌≤◌, ◌<◌, ◌-◌, ◌/◌}
 use mathlib.Core.Path.{◌≡◌}
 use lib.ListN.{length}
 use Rattle.float.specs.Ops.{∞}
-use Rattle.glyphs.specs.Points.{x_at, y_at}
+use Rattle.glyphs.specs.Points.{vertex_at}
 use Rattle.regions.specs.Squares.{least_after, least_from}
 use Rattle.regions.specs.Turns.{turns_from}
 use Rattle.regions.proofs.small.ring_clearance.Given as goal
@@ -12,15 +12,14 @@ use Rattle.regions.proofs.small.ring_clearance.Given as goal
 abbrev pub invariant-loop-i : goal.invariant-loop-i
 invariant-loop-i l =
     (l.i ≤ l.half)
-    × (l.n ≡ length l.ring / 2)
+    × (l.n ≡ length l.ring)
     × (l.half ≡ l.n / 2)
     × (l.best ≡ least_after l.px l.py ∞ l.ring l.n l.i)
     × (l.other ≡ least_from l.px l.py l.ring l.n l.half l.i)
     × (l.turned ≡ turns_from l.px l.py l.ring l.n 0 l.i)
     × (l.turned_other ≡ turns_from l.px l.py l.ring l.n l.half l.i)
-    × (l.ax ≡ x_at l.ring l.i)
-    × (l.ay ≡ y_at l.ring l.i)
-    × (l.half + l.i < l.n → (l.bx ≡ x_at l.ring (l.half + l.i)) × (l.by ≡ y_at l.ring (l.half + l.i)))
+    × (l.a ≡ vertex_at l.ring l.i)
+    × (l.half + l.i < l.n → l.b ≡ vertex_at l.ring (l.half + l.i))
 
 abbrev pub decreases-loop-i : goal.decreases-loop-i
 decreases-loop-i l = l.half - l.i

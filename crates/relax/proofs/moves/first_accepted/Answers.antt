@@ -9,14 +9,16 @@ unfolding told_of
 returns-in-Some c =
     let a = c.args in
     let l = c.loop in
-    rw (l.invariant, first_clear _ _ _ a.i a.spots.now a.honoring a.towards c.requires _ c.spot-p.ensures _ l.step _ (sym c.in-Some.ensures))
+    let m = a.mark in
+    rw (l.invariant, first_clear _ _ _ m.i m.spots.now m.honoring a.towards m.within _ c.place-p.ensures _ l.step _ (sym c.in-Some.ensures))
 
 pub loop-preserved : goal.loop-preserved
 loop-preserved c =
     let a = c.args in
     let l = c.loop in
     let k : a.backtracks - l.counter ≡ suc (a.backtracks - (l.counter + 1)) = omega arith in
-    rw (l.invariant, first_refused _ _ _ a.i a.spots.now a.honoring a.towards c.requires _ c.spot-p.ensures _ l.step (sym c.in_default.ensures), k)
+    let m = a.mark in
+    rw (l.invariant, first_refused _ _ _ m.i m.spots.now m.honoring a.towards m.within _ c.place-p.ensures _ l.step (sym c.in_default.ensures), k)
 
 pub returns-in_default : goal.returns-in_default
 unfolding told_of
@@ -24,9 +26,10 @@ returns-in_default c =
     let a = c.args in
     let l = c.loop in
     let k : a.backtracks - l.counter ≡ zero = omega arith in
+    let m = a.mark in
     rw (
       l.invariant,
-      first_refused _ _ _ a.i a.spots.now a.honoring a.towards c.requires _ c.spot-p.ensures _ l.step (sym c.in_default.ensures),
+      first_refused _ _ _ m.i m.spots.now m.honoring a.towards m.within _ c.place-p.ensures _ l.step (sym c.in_default.ensures),
       k,
       none_accepted,
     )

@@ -9,8 +9,8 @@ use Rattle.relax.proofs.moves.first_accepted.Given as goal
 abbrev pub invariant-loop : goal.invariant-loop
 invariant-loop l =
     let field = l.field in
-    let spots = spots_of l.spots in
-    first_accepted field.distances (rings_of field.piece) field.obstacles.now l.i spots l.honoring l.towards (suc l.backtracks) l.first
-    ≡ first_accepted field.distances (rings_of field.piece) field.obstacles.now l.i spots l.honoring l.towards
+    let spots = spots_of l.mark.spots.now in
+    first_accepted field.distances (rings_of field.piece) field.obstacles.now l.mark.i spots l.mark.honoring l.towards (suc l.backtracks) l.first
+    ≡ first_accepted field.distances (rings_of field.piece) field.obstacles.now l.mark.i spots l.mark.honoring l.towards
     (suc (l.backtracks - l.counter))
     l.step

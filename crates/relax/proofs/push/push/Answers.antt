@@ -7,4 +7,4 @@ use Rattle.relax.proofs.push.push.Goals as goal
 pub returns : goal.returns
 returns c =
     let a = c.args in
-    unreached a.influence a.p a.f a.q (sym (c.reaches.ensures ∙ ap (reaches a.influence) c.square_between-d2.ensures) ∙ c.if-reaches.false)
+    unreached a.influence a.p a.f a.q (sym (c.reaches.ensures ∙ ap (reaches a.influence) c.squared_distance-d2.ensures) ∙ c.if-reaches.false)

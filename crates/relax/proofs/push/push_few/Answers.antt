@@ -1,6 +1,7 @@
 -- `push_few` meets its contract: the marks before mark i and those after it that are near enough, gathered, push as all do.
 -- Rests on the contracts of what it calls.
-use Rattle.std.proofs.Common.{◌≡◌, ℕ, ◌+◌, ◌*◌, ◌/◌, ◌<◌, ◌≤◌, ◌-◌, List, Float, length, take, drop, sym, ap, ◌∙◌, arith}
+use Rattle.std.proofs.Common.{◌≡◌, ℕ, ◌+◌, ◌*◌, ◌/◌, ◌<◌, ◌≤◌, ◌-◌}
+use Rattle.std.proofs.Common.{List, Float, length, take, drop, sym, ap, ◌∙◌, arith}
 use Rattle.std.proofs.Common.{length-take, length-drop, length-take-le}
 use mathlib.Core.List.{foldl}
 use Rattle.glyphs.specs.declared.rect.Point.{Point}
@@ -23,24 +24,24 @@ after spots part i e h =
     omega (arith, n)
 
 pub gather-before-requires : goal.gather-before-requires
-gather-before-requires c = omega (arith, before c.args.spots.now _ c.args.i c.spots_before.ensures)
+gather-before-requires c = omega (arith, before c.args.mark.spots.now _ c.args.mark.i c.earlier.ensures)
 
 pub gather-all-requires : goal.gather-all-requires
 gather-all-requires c =
-    let b = before c.args.spots.now _ c.args.i c.spots_before.ensures in
-    let a = after c.args.spots.now _ c.args.i c.spots_after.ensures c.requires.0 in
+    let b = before c.args.mark.spots.now _ c.args.mark.i c.earlier.ensures in
+    let a = after c.args.mark.spots.now _ c.args.mark.i c.later.ensures c.args.mark.within in
     omega (arith, b, a, c.gather-before.ensures.few, c.gather-before.ensures.room)
 
 pub slice_bounds-near-end : goal.slice_bounds-near-end
 slice_bounds-near-end c =
-    let b = before c.args.spots.now _ c.args.i c.spots_before.ensures in
-    let a = after c.args.spots.now _ c.args.i c.spots_after.ensures c.requires.0 in
+    let b = before c.args.mark.spots.now _ c.args.mark.i c.earlier.ensures in
+    let a = after c.args.mark.spots.now _ c.args.mark.i c.later.ensures c.args.mark.within in
     omega (arith, b, a, c.gather-before.ensures.few, c.gather-before.ensures.room, c.gather-all.ensures.few, c.gather-all.ensures.room)
 
 pub slice_bounds-push_near-end : goal.slice_bounds-push_near-end
 slice_bounds-push_near-end c =
-    let b = before c.args.spots.now _ c.args.i c.spots_before.ensures in
-    let a = after c.args.spots.now _ c.args.i c.spots_after.ensures c.requires.0 in
+    let b = before c.args.mark.spots.now _ c.args.mark.i c.earlier.ensures in
+    let a = after c.args.mark.spots.now _ c.args.mark.i c.later.ensures c.args.mark.within in
     let room : c.gather-all.result * 2 ≤ length c.gather-all.new.near =
     omega (arith, b, a, c.gather-before.ensures.few, c.gather-before.ensures.room, c.gather-all.ensures.few, c.gather-all.ensures.room) in
     sym (length-take-le _ _ room)
@@ -52,6 +53,6 @@ returns c =
     c.push_near.ensures
     ∙ ap (foldl g no_force) (spots_take c.gather-all.result c.gather-all.new.near)
     ∙ c.gather-all.ensures.pushes no_force
-    ∙ ap (λ (x : Force). foldl g x (spots_of c.spots_after.result.now))
-    (c.gather-before.ensures.pushes no_force ∙ ap (foldl g no_force) c.spots_before.ensures)
-    ∙ ap (foldl g (foldl g no_force (take a.i (spots_of a.spots.now)))) c.spots_after.ensures
+    ∙ ap (λ (x : Force). foldl g x (spots_of c.later.result.now))
+    (c.gather-before.ensures.pushes no_force ∙ ap (foldl g no_force) c.earlier.ensures)
+    ∙ ap (foldl g (foldl g no_force (take a.mark.i (spots_of a.mark.spots.now)))) c.later.ensures

@@ -1,13 +1,13 @@
--- `push_near` meets its contract. The invariant: what is to come are the pushes of the marks from the pair on.
--- Rests on the laws of a fold over one element and over none.
-use mathlib.Core.Path.{◌≡◌}
+-- `push_near` meets its contract. The invariant: what is to come are the pushes of the pairs left and of the last mark.
+-- Rests on the law of a fold over a list cut into blocks.
+use Rattle.std.proofs.Common.{◌≡◌, drop}
 use mathlib.Core.List.{foldl}
-use Prim.Native.Nat.{◌*◌}
-use lib.ListN.{drop}
 use Rattle.glyphs.specs.Spots.{spots_of}
 use Rattle.relax.specs.Field.{push_of}
+use Rattle.relax.specs.Others.{block_pushes}
 use Rattle.relax.proofs.push.push_near.Given as goal
 
 abbrev pub invariant-loop-pair : goal.invariant-loop-pair
 invariant-loop-pair l =
-    foldl (push_of l.influence l.p) l.initial.f (spots_of l.spots) ≡ foldl (push_of l.influence l.p) l.f (drop (l.pair * 2) (spots_of l.spots))
+    let f = push_of l.influence l.p in
+    foldl f l.initial.f (spots_of l.spots) ≡ foldl f (foldl (block_pushes l.influence l.p) l.f (drop l.pair-index l.pairs)) (spots_of l.last)

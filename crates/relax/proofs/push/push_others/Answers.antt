@@ -17,12 +17,12 @@ others influence i spots p h e =
     let q : at (spots_of spots) i ≡ p = rw (spots_at_lem spots i _ h, e) in
     rw q (push_others influence p i (spots_of spots) no_force n)
 
-pub returns-then-spots-le64 : goal.returns-then-spots-le64
-returns-then-spots-le64 c =
+pub returns-then-mark-le64 : goal.returns-then-mark-le64
+returns-then-mark-le64 c =
     let a = c.args in
-    c.push_few.ensures ∙ sym (others a.influence a.i a.spots.now c.spot-p.result c.requires c.spot-p.ensures)
+    c.push_few.ensures ∙ sym (others a.influence a.mark.i a.mark.spots.now c.place-p.result a.mark.within c.place-p.ensures)
 
 pub returns : goal.returns
 returns c =
     let a = c.args in
-    rw (others a.influence a.i a.spots.now c.spot-p.result c.requires c.spot-p.ensures) (cc)
+    rw (others a.influence a.mark.i a.mark.spots.now c.place-p.result a.mark.within c.place-p.ensures) (cc)

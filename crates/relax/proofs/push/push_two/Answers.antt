@@ -22,12 +22,12 @@ root k e = ap (λ (l : List Float). get_or l k nan) e
 pub pushed-first-requires : goal.pushed-first-requires
 pushed-first-requires c =
     let t = both_true c.reaches.result c.reaches-2.result c.if-reaches.true in
-    (reached c.args.influence _ _ c.square_between-d2.ensures c.reaches.ensures t.0, root 0 c.each_root.ensures ∙ ap sqrt c.square_between-d2.ensures)
+    (reached c.args.influence _ _ c.squared_distance-d2.ensures c.reaches.ensures t.0, root 0 c.each_root.ensures ∙ ap sqrt c.squared_distance-d2.ensures)
 
 pub pushed-requires : goal.pushed-requires
 pushed-requires c =
     let t = both_true c.reaches.result c.reaches-2.result c.if-reaches.true in
-    (reached c.args.influence _ _ c.square_between-e2.ensures c.reaches-2.ensures t.1, root 1 c.each_root.ensures ∙ ap sqrt c.square_between-e2.ensures)
+    (reached c.args.influence _ _ c.squared_distance-e2.ensures c.reaches-2.ensures t.1, root 1 c.each_root.ensures ∙ ap sqrt c.squared_distance-e2.ensures)
 
 pub returns-then-reaches : goal.returns-then-reaches
 returns-then-reaches c =

@@ -13,8 +13,10 @@ loop-i-preserved c =
     let l = c.loop-i in
     let n = length c.args.marks.now.honoring.now in
     let h : l.i < length (up_to n) = simp length_up_to (omega (arith, c.loop-i-test.true)) in
-    let step = rw l.invariant.0.honoring at c.relax_point.ensures.moved in
-    (kept_on l.invariant.0 c.relax_point.ensures.keeps, l.invariant.1 ∙ fold_step _ _ (up_to n) l.i 0 h ∙ rw (up_to_at n l.i 0 c.loop-i-test.true, ← step))
+    let step = rw l.invariant.0.honoring at c.relax_point.ensures.moved in (
+      kept_on l.invariant.0 c.relax_point.ensures.keeps,
+      l.invariant.1 ∙ fold_step _ _ (up_to n) l.i 0 h ∙ rw (up_to_at n l.i 0 c.loop-i-test.true, ← step),
+    )
 
 pub returns-clause-moved : goal.returns-clause-moved
 unfolding relax_sweep

@@ -12,8 +12,10 @@ loop-k-preserved c =
     let l = c.loop-k in
     let n = c.args.numbers.sweeps in
     let h : l.k < length (up_to n) = simp length_up_to (omega (arith, c.loop-k-test.true)) in
-    let sweep = rw l.invariant.0.honoring at c.relax_sweep.ensures.moved in
-    (kept_on l.invariant.0 c.relax_sweep.ensures.keeps, l.invariant.1 ∙ fold_step _ _ (up_to n) l.k 0 h ∙ rw (up_to_at n l.k 0 c.loop-k-test.true, ← sweep))
+    let sweep = rw l.invariant.0.honoring at c.relax_sweep.ensures.moved in (
+      kept_on l.invariant.0 c.relax_sweep.ensures.keeps,
+      l.invariant.1 ∙ fold_step _ _ (up_to n) l.k 0 h ∙ rw (up_to_at n l.k 0 c.loop-k-test.true, ← sweep),
+    )
 
 pub returns-clause-moved : goal.returns-clause-moved
 unfolding relax_sweeps

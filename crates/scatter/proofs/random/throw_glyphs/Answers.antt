@@ -25,7 +25,8 @@ glyphs-preserved c =
     let same : length l.spots ≡ length a.spots.now = ap length l.invariant.0 ∙ g.invariant.1 in
     let front : Front g.count l.spots a.spots.now = rw l.invariant.0 g.invariant.2 in
     let e = landed a.site.now a.attempts a.honor l.counter g.count l.rng l.spots (omega arith) l.ahead l.invariant.1 _
-    c.spots_before-placed.ensures _ c.lands.ensures _ a.spots.now c.if-lands.true c.put_spot.ensures same (omega (arith, c.glyphs-test.true, c.requires.1)) front in
+    c.spots_before-placed.ensures _ c.lands.ensures _ a.spots.now c.if-lands.true c.put_spot.ensures same
+    (omega (arith, c.glyphs-test.true, c.requires.1)) front in
     (omega (arith, c.glyphs-test.true), c.put_spot.auto.spots ∙ same, e.0, c.aim-ahead-in-loop.ensures, sym e.1 ∙ l.invariant.2 ∙ g.invariant.4)
 
 pub loop-preserved : goal.loop-preserved

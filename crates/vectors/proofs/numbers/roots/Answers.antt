@@ -10,7 +10,3 @@ float_from_bits-root g c = tt
 pub float_from_bits-root-2 : goal.float_from_bits-root-2
 unfolding nan_bits
 float_from_bits-root-2 g c = tt
-
-pub float_from_bits-root-3 : goal.float_from_bits-root-3
-unfolding nan_bits
-float_from_bits-root-3 g c = tt

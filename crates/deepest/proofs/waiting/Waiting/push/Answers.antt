@@ -17,15 +17,16 @@ loop-i-preserved c =
     let l = c.loop-i in
     let a = c.args in
     let f = c.if-not-before.false in
-    let h : leaves a.self.now.halves.now (cell_of a.x a.y a.d a.halvings a.self.now.entered) (cell_at l.cells (parent l.i)) ≡ true = cc in
+    let h : leaves a.self.now.halves.now (cell_of a.place.x a.place.y a.d a.halvings a.self.now.entered) (cell_at l.cells (parent l.i)) ≡ true = cc in
     rw (c.put.ensures, c.get-e.ensures) (rising_step _ _ _ _ _ _ l.invariant c.loop-i-test.true h)
 
 pub invariant_of-self : goal.invariant_of-self
 invariant_of-self c =
     let l = c.loop-i in
     let a = c.args in
-    let t : Tagged (cell_of a.x a.y a.d a.halvings a.self.now.entered) = record { few = omega (arith, c.requires.few); early = c.requires.early } in
-    let stop : 0 < l.i → leaves a.self.now.halves.now (cell_of a.x a.y a.d a.halvings a.self.now.entered) (cell_at l.cells (parent l.i)) ≡ false =
+    let cell = cell_of a.place.x a.place.y a.d a.halvings a.self.now.entered in
+    let t : Tagged cell = record { few = omega (arith, c.requires.few); early = c.requires.early } in
+    let stop : 0 < l.i → leaves a.self.now.halves.now cell (cell_at l.cells (parent l.i)) ≡ false =
     elim c.loop-i-test.branch [
       | else-loop-i-test w ↦ λ z. absurd (omega (arith, w.loop-i-test.false))
       | then-loop-i-test+then-not-before w ↦ λ z. cc (w.if-not-before.true, w.get-e.ensures, w.before-in-loop-i.ensures)
@@ -36,8 +37,9 @@ pub returns : goal.returns
 returns c =
     let l = c.loop-i in
     let a = c.args in
-    let t : Tagged (cell_of a.x a.y a.d a.halvings a.self.now.entered) = record { few = omega (arith, c.requires.few); early = c.requires.early } in
-    let stop : 0 < l.i → leaves a.self.now.halves.now (cell_of a.x a.y a.d a.halvings a.self.now.entered) (cell_at l.cells (parent l.i)) ≡ false =
+    let cell = cell_of a.place.x a.place.y a.d a.halvings a.self.now.entered in
+    let t : Tagged cell = record { few = omega (arith, c.requires.few); early = c.requires.early } in
+    let stop : 0 < l.i → leaves a.self.now.halves.now cell (cell_at l.cells (parent l.i)) ≡ false =
     elim c.loop-i-test.branch [
       | else-loop-i-test w ↦ λ z. absurd (omega (arith, w.loop-i-test.false))
       | then-loop-i-test+then-not-before w ↦ λ z. cc (w.if-not-before.true, w.get-e.ensures, w.before-in-loop-i.ensures)

@@ -21,6 +21,6 @@ invariant-loop-i g l =
     × (l.self.rings.items ≡ l.initial.self.rings.items)
     × (faults (ring_fault s) (ring_end s) l.rings from ≡ faults (ring_fault s) (ring_end s) left l.job.at)
     × (past (ring_end s) l.rings from ≡ past (ring_end s) left l.job.at)
-    × (l.initial.self.coords.items ++ flat (ring s) (ring_end s) l.rings from ≡ l.self.coords.items ++ flat (ring s) (ring_end s) left l.job.at)
+    × (l.initial.self.points.items ++ flat (ring s) (ring_end s) l.rings from ≡ l.self.points.items ++ flat (ring s) (ring_end s) left l.job.at)
     × (l.initial.self.sizes.items ++ each (u16 s) (ring_end s) l.rings from ≡ l.self.sizes.items ++ each (u16 s) (ring_end s) left l.job.at)
-    × (4 * length l.self.coords.items + from ≤ 4 * length l.initial.self.coords.items + l.job.at)
+    × (8 * length l.self.points.items + from ≤ 8 * length l.initial.self.points.items + l.job.at)

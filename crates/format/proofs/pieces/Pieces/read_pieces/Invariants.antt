@@ -6,7 +6,7 @@ use Prim.Native.Nat.{◌+◌, ◌-◌, ◌*◌, ◌≤◌}
 use lib.ListN.{length}
 use Rattle.format.specs.Rows.{faults, past, each, flat}
 use Rattle.format.specs.Numbers.{u8}
-use Rattle.format.specs.Pieces.{piece_fault, piece_end, piece_coords, ring_sizes}
+use Rattle.format.specs.Pieces.{piece_fault, piece_end, piece_points, ring_sizes}
 use Rattle.format.specs.Steps.{Room}
 use Rattle.format.proofs.pieces.Pieces.read_pieces.Given as goal
 
@@ -21,7 +21,7 @@ invariant-loop-i g l =
     × (length l.self.rings.items + left ≤ g.row.PIECES)
     × (faults (piece_fault s) (piece_end s) l.n from ≡ faults (piece_fault s) (piece_end s) left l.job.at)
     × (past (piece_end s) l.n from ≡ past (piece_end s) left l.job.at)
-    × (l.initial.self.coords.items ++ flat (piece_coords s) (piece_end s) l.n from ≡ l.self.coords.items ++ flat (piece_coords s) (piece_end s) left l.job.at)
+    × (l.initial.self.points.items ++ flat (piece_points s) (piece_end s) l.n from ≡ l.self.points.items ++ flat (piece_points s) (piece_end s) left l.job.at)
     × (l.initial.self.sizes.items ++ flat (ring_sizes s) (piece_end s) l.n from ≡ l.self.sizes.items ++ flat (ring_sizes s) (piece_end s) left l.job.at)
     × (l.initial.self.rings.items ++ each (u8 s) (piece_end s) l.n from ≡ l.self.rings.items ++ each (u8 s) (piece_end s) left l.job.at)
-    × (4 * length l.self.coords.items + from ≤ 4 * length l.initial.self.coords.items + l.job.at)
+    × (8 * length l.self.points.items + from ≤ 8 * length l.initial.self.points.items + l.job.at)

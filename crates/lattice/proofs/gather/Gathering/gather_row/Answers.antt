@@ -2,6 +2,7 @@
 -- Rests on the laws of what two slices and the run hold and of a turn over a row.
 use Rattle.std.proofs.Common.{◌+◌, ◌≤◌, length, sym, refl, ap, ◌∙◌, arith}
 use Rattle.regions.specs.Pieces.{rings_of}
+use Rattle.lattice.specs.Flat.{front_number, spots_front}
 use Rattle.lattice.specs.Gather.{gather, gather_from, row_start, row_none, row_turn, row_done}
 use Rattle.lattice.specs.Gathered.{kept_of, gathered_in, waits_begun, begun_are, holds_merged, merged_fit}
 use Rattle.lattice.specs.Held.{holds_start, holds_as, turn}
@@ -56,17 +57,26 @@ loop-k-preserved c =
           (sym g.cells_are),
     )
 
+pub merge_run-self-requires : goal.merge_run-self-requires
+merge_run-self-requires c =
+    let l = c.loop-k in
+    let w = l.invariant.4 in
+    (w.line.kept_le, w.line.room, w.line.order, rw (spots_front l.self.t.free.waiting l.self.run) w.line.run_order)
+
 pub returns-clause-cells : goal.returns-clause-cells
 returns-clause-cells c =
     let l = c.loop-k in
     let a = c.args in
     let w = l.invariant.4 in
     let room : 64 ≤ length l.self.run = omega arith in
+    let n = l.self.t.free.waiting in
+    let number = front_number n l.self.run (omega (arith, w.line.waiting_le)) in
+    let merged = rw (number, spots_front n l.self.run) at c.merge_run-self.ensures in
     let held =
     turn a.wanted.anchor a.wanted.free a.wanted.blocked (kept_of l.self.t) l.self.free.now l.self.blocked.now w.ready a.self.now.free.now
     a.self.now.blocked.now l.invariant.5
     (gathered_in a.wanted.anchor a.wanted.free l.self.t l.self.free.now l.self.blocked.now l.self.run)
     (merged_fit a.wanted.anchor a.wanted.free a.wanted.blocked l.self.t l.self.free.now l.self.blocked.now l.self.run w room) _ _ _
     (holds_merged a.wanted.anchor a.wanted.free a.wanted.blocked l.self.t l.self.free.now l.self.blocked.now l.self.run w room _ _
-    c.merge_run-self.ensures.0 c.merge_run-self.ensures.1) in
+    merged.0 merged.1) in
     holds_as held.2 (held.0 ∙ sym (l.invariant.6 ∙ row_done _ _ _ _ _ _ _ a.row l.k c.loop-k-test.false))

@@ -1,6 +1,6 @@
 -- `take_cells` meets its contract: the nearest are gathered, and the free ones filled up with blocked ones.
 -- Rests on the laws of what is taken and how it is written.
-use Rattle.std.proofs.Common.{◌≡◌, List, length, sym, ap, ◌∙◌, arith, length-take}
+use Rattle.std.proofs.Common.{◌≡◌, ◌*◌, List, length, take, sym, ap, ◌∙◌, arith, length-take, length-take-le, take-take}
 use Rattle.laws.specs.Lists.{written}
 use Rattle.glyphs.specs.declared.rect.Point.{Point}
 use Rattle.regions.specs.Pieces.{rings_of}
@@ -25,4 +25,7 @@ returns c =
     let e : filled a.self.n (kept a.self.field.anchor a.self.n c.none_if-nb.result cells) ≡ field_take piece a.self.site.margin.least near a.self.n
     a.self.field a.self.honoring =
     rw c.none_if-nb.ensures (sym (taken a.self.n a.self.field.anchor cells a.self.honoring)) in
-    (done.0 ∙ ap length e, c.append.ensures ∙ done.1 ∙ ap (λ (ps : List Point). written (flat ps) a.spots.now) e)
+    let b = c.gather_cells-t.new.blocked in
+    let m = c.min-more.result * 2 in
+    let front : length (take m b) ≡ m = length-take-le m b (omega (arith, c.requires.0, c.min-more.ensures, c.gather_cells-t.auto.blocked)) in
+    (done.0 ∙ ap length e, (rw (front, take-take m m b (omega arith)) at c.append.ensures) ∙ done.1 ∙ ap (λ (ps : List Point). written (flat ps) a.spots.now) e)

@@ -7,15 +7,14 @@ use Rattle.glyphs.specs.Spots.{spots_of, spots_at_lem, length_spots}
 use Rattle.relax.specs.Others.{clear_others, clear_counted}
 use Rattle.relax.proofs.field.Field.clear_of_others.Goals as goal
 
-pub returns-then-spots-le64 : goal.returns-then-spots-le64
-returns-then-spots-le64 c =
+pub returns-then-mark-le64 : goal.returns-then-mark-le64
+returns-then-mark-le64 c =
     let a = c.args in
-    let q = c.spot in
-    let h : a.i < length (spots_of a.spots.now) = simp length_spots (omega arith) in
+    let h : a.mark.i < length (spots_of a.mark.spots.now) = simp length_spots (omega arith) in
     rw (
-      clear_counted _ _ _ a.i (spots_of a.spots.now) q.result h,
-      spots_at_lem a.spots.now a.i q.result (omega arith),
-      ← q.ensures,
+      clear_counted _ _ a.mark.i (spots_of a.mark.spots.now) c.place.result h,
+      spots_at_lem a.mark.spots.now a.mark.i c.place.result (omega arith),
+      ← c.place.ensures,
       ← c.apart-own.ensures,
       ← c.count_near.ensures,
     )
@@ -23,11 +22,11 @@ returns-then-spots-le64 c =
 pub returns : goal.returns
 returns c =
     let a = c.args in
-    let h : a.i < length (spots_of a.spots.now) = simp length_spots (omega arith) in
+    let h : a.mark.i < length (spots_of a.mark.spots.now) = simp length_spots (omega arith) in
     rw (
-      clear_others _ _ _ a.i (spots_of a.spots.now) h,
-      ← c.spots_before.ensures,
-      ← c.spots_after.ensures,
+      clear_others _ _ a.mark.i (spots_of a.mark.spots.now) h,
+      ← c.earlier.ensures,
+      ← c.later.ensures,
       ← c.apart_from_all-before.ensures,
       ← c.apart_from_all.ensures,
     )

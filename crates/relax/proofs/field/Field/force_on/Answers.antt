@@ -12,13 +12,12 @@ unfolding force_on
 returns-then-rooted_below-self c =
     let said = c.rooted_below.ensures ∙ below_margin _ _ _ c.args.self.now.reach_margin in
     let a = c.args in
-    let q = c.spot in
     rw (
       ← c.push_others-f.ensures,
       ← said,
       c.if-rooted_below-self.true,
-      spots_at_lem a.spots.now a.i _ (omega arith),
-      ← q.ensures,
+      spots_at_lem a.mark.spots.now a.mark.i _ (omega arith),
+      ← c.place.ensures,
       ← c.clearance_gradient-gradient.ensures,
       ← c.rooted.ensures,
     ) c.push_inward.ensures

@@ -29,5 +29,5 @@ fn main() -> ExitCode {
 }
 
 fn lent(input: &PieceInput) -> Piece<'_> {
-    Piece::new(&input.ring_sizes, &input.coords)
+    Piece::new(&input.ring_sizes, &input.points)
 }
