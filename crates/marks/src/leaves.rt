@@ -38,8 +38,7 @@ pub fn hash(bytes: &[u8]) -> u64
 pub fn radical_inverse(index: u64, base: u64) -> Result<f64, Refusal>
     ensures { result ≡ inverse_answer index base }
 {
-    let fits = (2..=65536).contains(&base);
-    if !fits {
+    if !(2..=65536).contains(&base) {
         return Err(Refusal::Base);
     }
     Ok(glyphs::halton::radical_inverse(index, base))

@@ -26,8 +26,7 @@ use sheet::Writer;
 fn ceiling_of(options: GlyphOptions, zones: Zones<'_>) -> Option<f64>
     ensures { result ≡ ceiling_in options zones.entry }
 {
-    let radius = options.radius;
-    match radius {
+    match options.radius {
         Radius::Stated(_) => None,
         Radius::Auto => analytic_r_hi(boundary_gap_of(options), zones.layout, zones.deepest),
     }

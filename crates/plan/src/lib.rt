@@ -61,8 +61,7 @@ fn plan_items(
         &mut memory.rows,
     )?;
     let rows = memory.rows.as_slice();
-    let fits = sheet_room(rows) <= sheet.len();
-    if !fits {
+    if sheet_room(rows) > sheet.len() {
         return Err(Refusal::SheetLength);
     }
     let layout = Layout {

@@ -34,11 +34,9 @@ fn starts_deepest(arrangement: GlyphArrangement, piece: RegionPiece<'_>, quota: 
 fn is_searched(options: GlyphOptions, piece: RegionPiece<'_>, quota: usize) -> bool
     ensures { result ≡ is_searched options.radius options.arrangement (rings_of piece.entry) quota }
 {
-    let radius = options.radius;
-    let arrangement = options.arrangement;
-    match radius {
+    match options.radius {
         Radius::Auto => true,
-        Radius::Stated(r) => (r > 0.0) & starts_deepest(arrangement, piece, quota),
+        Radius::Stated(r) => (r > 0.0) & starts_deepest(options.arrangement, piece, quota),
     }
 }
 

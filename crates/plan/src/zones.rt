@@ -29,8 +29,7 @@ use sheet::Writer;
 fn pack_mode(options: GlyphOptions) -> PackMode
     ensures { result ≡ pack options }
 {
-    let policy = options.obstacle_policy;
-    match policy {
+    match options.obstacle_policy {
         ObstaclePolicy::BestEffort => PackMode::PACK,
         ObstaclePolicy::Strict => PackMode {
             strict_obstacles: true,

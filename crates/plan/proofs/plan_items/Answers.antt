@@ -17,11 +17,11 @@ sheet_room-requires c =
     let o = c.in_ok-options.ensures in
     rw c.as_slice-rows.ensures.value (rows_fit_lem _ _ _ _ _ _ _ _ o.read (sym o.fault) c.requires.rows)
 
-pub returns-then-not-fits : goal.returns-then-not-fits
-returns-then-not-fits c =
+pub returns-then-sheet_room-sheet : goal.returns-then-sheet_room-sheet
+returns-then-sheet_room-sheet c =
     let o = c.in_ok-options.ensures in
     short_answered _ _ _ _ _ _ _ _ o.read (sym o.fault) c.requires.rows
-    c.sheet_room.result c.args.sheet.now (rw c.as_slice-rows.ensures.value at c.sheet_room.ensures) c.if-not-fits.true
+    c.sheet_room.result c.args.sheet.now (rw c.as_slice-rows.ensures.value at c.sheet_room.ensures) c.if-sheet_room-sheet.true
 
 pub invariant_of-layout : goal.invariant_of-layout
 invariant_of-layout c =
@@ -62,4 +62,4 @@ pub returns : goal.returns
 returns c =
     let o = c.in_ok-options.ensures in
     zones_answered _ _ _ _ _ _ _ _ o.read (sym o.fault) c.requires.rows c.sheet_room.result _ c.args.sheet.now _
-    (rw c.as_slice-rows.ensures.value at c.sheet_room.ensures) c.if-not-fits.false (rw o.bytes at c.plan_zones.ensures)
+    (rw c.as_slice-rows.ensures.value at c.sheet_room.ensures) c.if-sheet_room-sheet.false (rw o.bytes at c.plan_zones.ensures)

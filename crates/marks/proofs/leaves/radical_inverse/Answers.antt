@@ -7,9 +7,9 @@ use Rattle.std.specs.Prelude.{◌||◌, ltb}
 use Rattle.marks.specs.Leaves.{inverse_answer}
 use Rattle.marks.proofs.leaves.radical_inverse.Goals as goal
 
-pub returns-then-not-fits : goal.returns-then-not-fits
+pub returns-then-not-contains : goal.returns-then-not-contains
 unfolding inverse_answer
-returns-then-not-fits c =
+returns-then-not-contains c =
     let f : (ltb c.args.base 2 || ltb 65536 c.args.base) ≡ true = grind arith in
     rw f
 
