@@ -5,7 +5,7 @@ use arrayvec::ArrayVec;
 use glyphs::rect::Point;
 
 // The job, and where its next item stands.
-#[derive(Drop)]
+#[derive(Clone, Copy)]
 pub struct Reader<'a> {
     pub bytes: &'a [u8],
     pub at: usize,

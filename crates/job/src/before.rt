@@ -2,7 +2,7 @@
 ghost use Rattle.std.specs.Prelude.{◌≤◌};
 
 // The last key, and the marks so far.
-#[derive(Drop)]
+#[derive(Clone, Copy)]
 pub struct Before<'a> {
     pub key: &'a [u8],
     pub marks: usize,
