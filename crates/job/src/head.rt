@@ -5,13 +5,14 @@ ghost use Rattle.format.specs.Refusals.{fault_of};
 ghost use Rattle.format.specs.Rows.{◌or_else◌};
 ghost use Rattle.format.specs.Numbers.{u8, u32, u8_in};
 ghost use Rattle.job.specs.Head.{version_at, arrangement_at, gap_at, obstacles_at, lent_fault, work_fault, number_after};
-ghost use Rattle.job.specs.Head.{choices_fault, head_fault, arrangement_of, policy_of, choices_of, options_of};
+ghost use Rattle.job.specs.Head.{choices_fault, head_fault, arrangement_of, policy_of, radius_of, choices_of};
+ghost use Rattle.job.specs.Head.{boundary_of, options_of};
 ghost use Rattle.job.specs.Head.{obstacles_fault_at, obstacles_end_at, obstacles_from, rectangle_fault, rectangle, next_rectangle};
 ghost use Rattle.job.specs.Steps.{number_of_kind};
 
 use arrayvec::ArrayVec;
 use discs::options::{GlyphOptions, Radius};
-use format::numbers::uint;
+use format::numbers::{share, uint};
 use format::reader::Reader;
 use format::refusal::Refusal;
 use glyphs::options::{GlyphArrangement, ObstaclePolicy};
@@ -58,8 +59,8 @@ fn read_choice(job: &mut Reader, most: u64) -> Result<Option<f64>, Refusal>
     Ok(Some(job.share(0, most, Refusal::HeadValue)?))
 }
 
-// The case of a number that `item` found in its range. A `TryFrom` could fail, and these two cannot. A `From<u64>` would be
-// open to every caller, and take any other number for the last case.
+// The case of a number, and the last one for any past it: `read_choices` lets none such through, and `options_of`
+// judges nothing. A `TryFrom` could fail, and these two cannot; a `From<u64>` would be open to every caller.
 fn arrangement_of(n: u64) -> GlyphArrangement
     ensures { result ≡ arrangement_of n }
 {
@@ -122,6 +123,50 @@ pub fn read_options(job: &mut Reader) -> Result<GlyphOptions, Refusal>
         max_attempts,
         obstacle_policy,
     })
+}
+
+// The radius, and the boundary's gap, by their kind and the number after it.
+fn radius_of(kind: u64, n: u32) -> Radius
+    ensures { result ≡ radius_of kind n }
+{
+    match kind {
+        0 => Radius::Auto,
+        _ => Radius::Stated(share(n)),
+    }
+}
+
+fn boundary_of(kind: u64, n: u32) -> Option<f64>
+    ensures { result ≡ boundary_of kind n }
+{
+    match kind {
+        0 => None,
+        _ => Some(share(n)),
+    }
+}
+
+// The options of a head, whatever its values are: nothing is judged, and nothing refused.
+pub fn options_of(s: &[u8]) -> GlyphOptions
+    requires { 37 ≤ length s.now }
+    ensures { result ≡ options_of s.now }
+{
+    let arrangement = arrangement_of(uint(&s[5..6]));
+    let obstacle_policy = policy_of(uint(&s[6..7]));
+    let radius = radius_of(uint(&s[7..8]), uint(&s[8..12]) as u32);
+    let gap = share(uint(&s[12..16]) as u32);
+    let boundary_gap = boundary_of(uint(&s[16..17]), uint(&s[17..21]) as u32);
+    let precision = share(uint(&s[21..25]) as u32);
+    let max_attempts = uint(&s[25..29]) as u32;
+    let seed = uint(&s[29..37]);
+    GlyphOptions {
+        arrangement,
+        radius,
+        gap,
+        boundary_gap,
+        seed,
+        precision,
+        max_attempts,
+        obstacle_policy,
+    }
 }
 
 // The next obstacle: centre x, centre y, width and height.
