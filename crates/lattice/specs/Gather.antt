@@ -121,25 +121,27 @@ module _ (piece : Piece) (min-clearance : Float) (near : List Rectangle) (anchor
       (j.0, (omega (arith, i.1.0, j.1.0), omega (arith, i.1.1, j.1.1)))
 
   -- ---- turns of the loops
-  module _ (cells : HexCells) (row : Row) where
+  -- ---- a turn of the loop over a row of n cells from the rank i on
+  module _ (cells : HexCells) (x y s : Float) (i n : ℕ) where
     -- what is gathered from the cell k on
     abbrev pub gather_from : ℕ → HexCells
-    gather_from k = gather cells (cells_from row.x row.y row.spacing (row.first + k) (row.count - k))
+    gather_from k = gather cells (cells_from x y s (i + k) (n - k))
 
-    pub row_start : gather cells (cells_in row) ≡ gather_from 0
-    row_start = ap (gather cells) (cells_start row.x row.y row.spacing row.first row.count)
+    pub row_start : gather cells (cells_from x y s i n) ≡ gather_from 0
+    row_start = ap (gather cells) (cells_start x y s i n)
 
     pub row_turn :
-        (k : ℕ) → k < row.count → (p : Point) → p ≡ point (cell_x row.x row.spacing (row.first + k)) row.y
-        → gather_from k ≡ gather (gather_cell cells p) (cells_from row.x row.y row.spacing (row.first + (k + 1)) (row.count - (k + 1)))
-    row_turn k h p e = rw (cells_step row.x row.y row.spacing row.first k row.count h, ← e)
+        (k : ℕ) → k < n → (p : Point) → p ≡ point (cell_x x s (i + k)) y
+        → gather_from k ≡ gather (gather_cell cells p) (cells_from x y s (i + (k + 1)) (n - (k + 1)))
+    row_turn k h p e = rw (cells_step x y s i k n h, ← e)
 
-    pub row_done : (k : ℕ) → row.count ≤ k → gather_from k ≡ cells
-    row_done k h = rw (cells_end row.x row.y row.spacing row.first k row.count h)
+    pub row_done : (k : ℕ) → n ≤ k → gather_from k ≡ cells
+    row_done k h = rw (cells_end x y s i k n h)
 
-    pub row_none : row.count ≡ 0 → gather cells (cells_in row) ≡ cells
-    row_none z = rw (no_cells_lem row.x row.y row.spacing row.first row.count z)
+    pub row_none : n ≡ 0 → gather cells (cells_from x y s i n) ≡ cells
+    row_none z = rw (no_cells_lem x y s i n z)
 
+  module _ (cells : HexCells) (row : Row) where
     pub rows_turn : (rows : List (List Point)) → gather cells (joined (cells_in row ∷ rows)) ≡ gather (gather cells (cells_in row)) (joined rows)
     rows_turn rows = foldl-append gather_cell cells (cells_in row) (joined rows)
 

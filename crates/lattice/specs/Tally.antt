@@ -12,8 +12,8 @@ use Rattle.regions.specs.Ring.{Piece}
 use Rattle.regions.specs.Clearance.{signed_clearance}
 use Rattle.lattice.specs.Escape.{point}
 use Rattle.lattice.specs.Lattice.{HexCells, no_cells, Cap, at, reached, judge, hex_enum_cap, all_cells, cells_within}
-use Rattle.lattice.specs.Rows.{cell_x, cells_from, cells_step, cells_start, cells_end, no_cells_lem, joined, walk}
-use Rattle.lattice.specs.Walk.{cells_in, length_in}
+use Rattle.lattice.specs.Rows.{cell_x, cells_from, length_cells, cells_step, cells_start, cells_end, no_cells_lem, joined, walk}
+use Rattle.lattice.specs.Walk.{cells_in}
 use Rattle.lattice.specs.declared.count.Counts.{Counts}
 use Rattle.lattice.specs.declared.rows.Field.{Field}
 use Rattle.lattice.specs.declared.row.Row.{Row}
@@ -70,37 +70,37 @@ module _ (piece : Piece) (min-clearance : Float) (near : List Rectangle) where
   counted_bound t p r e = rw e (counted_le t p)
 
   pub row_bound :
-      (cap : ℕ) (t : Counts) (row : Row) (r : Counts) → r ≡ tally cap t (cells_in row)
-      → (r.free ≤ t.free + row.count) × (r.blocked ≤ t.blocked + row.count)
-  row_bound cap t row r e = rw e (rw (length_in row) at (tally_le cap t (cells_in row)))
+      (cap : ℕ) (t : Counts) (x y s : Float) (i n : ℕ) (r : Counts) → r ≡ tally cap t (cells_from x y s i n)
+      → (r.free ≤ t.free + n) × (r.blocked ≤ t.blocked + n)
+  row_bound cap t x y s i n r e = rw e (rw (length_cells x y s i n) at (tally_le cap t (cells_from x y s i n)))
 
-  -- ---- a turn of the loop over a row: r is what is counted with the cell k, at p
-  module _ (cap : ℕ) (t : Counts) (row : Row) where
+  -- ---- a turn of the loop over a row of n cells from the rank i on: r is what is counted with the cell k, at p
+  module _ (cap : ℕ) (t : Counts) (x y s : Float) (i n : ℕ) where
     -- what is counted from the cell k on
     abbrev pub tally_from : ℕ → Counts
-    tally_from k = tally cap t (cells_from row.x row.y row.spacing (row.first + k) (row.count - k))
+    tally_from k = tally cap t (cells_from x y s (i + k) (n - k))
 
-    pub row_start : tally cap t (cells_in row) ≡ tally_from 0
-    row_start = ap (tally cap t) (cells_start row.x row.y row.spacing row.first row.count)
+    pub row_start : tally cap t (cells_from x y s i n) ≡ tally_from 0
+    row_start = ap (tally cap t) (cells_start x y s i n)
 
     module _
-        (k : ℕ) (h : k < row.count) (p : Point) (ep : p ≡ point (cell_x row.x row.spacing (row.first + k)) row.y)
+        (k : ℕ) (h : k < n) (p : Point) (ep : p ≡ point (cell_x x s (i + k)) y)
         (r : Counts) (er : r ≡ count_cell t p) where
       pub row_stop : cap ≤ r.free → tally_from k ≡ r
       unfolding tally
-      row_stop e = rw (cells_step row.x row.y row.spacing row.first k row.count h, ← ep, ← er, le-leb _ _ e)
+      row_stop e = rw (cells_step x y s i k n h, ← ep, ← er, le-leb _ _ e)
 
-      pub row_next : r.free < cap → tally_from k ≡ tally cap r (cells_from row.x row.y row.spacing (row.first + (k + 1)) (row.count - (k + 1)))
+      pub row_next : r.free < cap → tally_from k ≡ tally cap r (cells_from x y s (i + (k + 1)) (n - (k + 1)))
       unfolding tally
-      row_next e = rw (cells_step row.x row.y row.spacing row.first k row.count h, ← ep, ← er, lt-leb _ _ e)
+      row_next e = rw (cells_step x y s i k n h, ← ep, ← er, lt-leb _ _ e)
 
-    pub row_end : (k : ℕ) → row.count ≤ k → tally_from k ≡ t
+    pub row_end : (k : ℕ) → n ≤ k → tally_from k ≡ t
     unfolding tally
-    row_end k h = rw (cells_end row.x row.y row.spacing row.first k row.count h)
+    row_end k h = rw (cells_end x y s i k n h)
 
-    pub row_none : row.count ≡ 0 → tally cap t (cells_in row) ≡ t
+    pub row_none : n ≡ 0 → tally cap t (cells_from x y s i n) ≡ t
     unfolding tally
-    row_none z = rw (no_cells_lem row.x row.y row.spacing row.first row.count z)
+    row_none z = rw (no_cells_lem x y s i n z)
 
   -- ---- one list after another
   append_into :

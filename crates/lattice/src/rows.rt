@@ -19,6 +19,15 @@ pub struct Field {
     pub extents: Extents,
 }
 
+// A row: the place of its cell 0, and the ranks of its first and last cell.
+#[derive(Clone, Copy)]
+pub struct Line {
+    pub x: f64,
+    pub y: f64,
+    pub first: u64,
+    pub last: u64,
+}
+
 pub fn row_height(lattice: Lattice) -> f64
     ensures { result ≡ row_height lattice }
 {
@@ -52,8 +61,24 @@ pub fn row_ends(field: Field, u: u64) -> (u64, u64)
     (first, last)
 }
 
-// The row of a rank, where rows are `row_h` apart, but at most `left` cells of it.
-pub fn row_at(field: Field, row_h: f64, u: u64, left: usize) -> Row
+// The row of a rank, where rows are `row_h` apart.
+pub fn row_at(field: Field, row_h: f64, u: u64) -> Line
+    ensures x { result.x ≡ row_x field row_h u }
+    ensures y { result.y ≡ row_y field row_h u }
+    ensures first { result.first ≡ first_cell field row_h u }
+    ensures last { result.last ≡ last_cell field row_h u }
+{
+    let (first, last) = row_ends(field, u);
+    Line {
+        x: field.anchor.x + row_offset(field.lattice, u),
+        y: field.anchor.y + number(u) * row_h,
+        first,
+        last,
+    }
+}
+
+// At most `left` cells of the row of a rank.
+pub fn row_within(field: Field, row_h: f64, u: u64, left: usize) -> Row
     ensures x { result.x ≡ row_x field row_h u }
     ensures y { result.y ≡ row_y field row_h u }
     ensures spacing { result.spacing ≡ field.lattice.spacing }
@@ -62,12 +87,12 @@ pub fn row_at(field: Field, row_h: f64, u: u64, left: usize) -> Row
     ensures cells { cells_in result ≡ row_of field row_h u left }
     ensures few { result.count ≤ left }
 {
-    let (first, last) = row_ends(field, u);
+    let line = row_at(field, row_h, u);
     Row {
-        x: field.anchor.x + row_offset(field.lattice, u),
-        y: field.anchor.y + number(u) * row_h,
+        x: line.x,
+        y: line.y,
         spacing: field.lattice.spacing,
-        first,
-        count: many(first, last, left),
+        first: line.first,
+        count: many(line.first, line.last, left),
     }
 }

@@ -2,7 +2,7 @@
 ghost use Rattle.std.specs.Prelude.{◌≤◌};
 
 use crate::row::Row;
-use crate::rows::{Field, row_at, row_height};
+use crate::rows::{Field, row_height, row_within};
 use crate::span::{ceil_rank, floor_rank};
 use glyphs::rect::is_finite;
 
@@ -79,7 +79,7 @@ impl Iterator for Rows {
         if self.left == 0 {
             return None;
         }
-        let row = row_at(self.field, self.row_h, self.rank, self.left);
+        let row = row_within(self.field, self.row_h, self.rank, self.left);
         if self.rank == self.last {
             self.left = 0;
             return Some(row);

@@ -6,7 +6,7 @@ use Rattle.lattice.specs.Tally.{row_none, row_stop, row_next, row_end, counted_b
 use Rattle.lattice.proofs.count.count_row.Goals as goal
 
 pub returns-then-row-eq0 : goal.returns-then-row-eq0
-returns-then-row-eq0 c = sym (row_none _ _ _ _ _ c.args.row c.if-row-eq0.true)
+returns-then-row-eq0 c = sym (row_none _ _ _ _ _ _ _ _ _ _ c.if-row-eq0.true)
 
 pub returns-then-t-cap : goal.returns-then-t-cap
 returns-then-t-cap c =
@@ -14,8 +14,8 @@ returns-then-t-cap c =
     let a = c.args in
     sym
     (l.invariant.2
-    ∙ row_stop (rings_of a.site.piece) a.site.margin.least a.site.near.now a.cap l.t a.row l.k c.loop-k-test.true _ c.cell.ensures _
-    (rw c.find.ensures.site at c.count_cell-t.ensures) c.if-t-cap.true)
+    ∙ row_stop (rings_of a.site.piece) a.site.margin.least a.site.near.now a.cap l.t a.row.x a.row.y a.row.spacing a.row.first
+    a.row.count l.k c.loop-k-test.true _ c.cell.ensures _ (rw c.find.ensures.site at c.count_cell-t.ensures) c.if-t-cap.true)
 
 pub loop-k-preserved : goal.loop-k-preserved
 loop-k-preserved c =
@@ -25,9 +25,9 @@ loop-k-preserved c =
       omega arith,
       omega arith,
       l.invariant.2
-          ∙ row_next (rings_of a.site.piece) a.site.margin.least a.site.near.now a.cap l.t a.row l.k c.loop-k-test.true _ c.cell.ensures _
-          (rw c.find.ensures.site at c.count_cell-t.ensures) c.if-t-cap.false,
+          ∙ row_next (rings_of a.site.piece) a.site.margin.least a.site.near.now a.cap l.t a.row.x a.row.y a.row.spacing a.row.first
+          a.row.count l.k c.loop-k-test.true _ c.cell.ensures _ (rw c.find.ensures.site at c.count_cell-t.ensures) c.if-t-cap.false,
     )
 
 pub returns : goal.returns
-returns c = sym (c.loop-k.invariant.2 ∙ row_end _ _ _ _ _ c.args.row c.loop-k.k c.loop-k-test.false)
+returns c = sym (c.loop-k.invariant.2 ∙ row_end _ _ _ _ _ _ _ _ _ _ c.loop-k.k c.loop-k-test.false)

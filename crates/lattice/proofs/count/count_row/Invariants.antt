@@ -11,4 +11,4 @@ invariant-loop-k l =
     (l.t.free + (l.row.count - l.k) ≤ 1000000)
     × (l.t.blocked + (l.row.count - l.k) ≤ 1000000)
     × (tally (rings_of l.site.piece) l.site.margin.least l.site.near.now l.cap l.initial.t (cells_in l.row)
-    ≡ tally_from (rings_of l.site.piece) l.site.margin.least l.site.near.now l.cap l.t l.row l.k)
+    ≡ tally_from (rings_of l.site.piece) l.site.margin.least l.site.near.now l.cap l.t l.row.x l.row.y l.row.spacing l.row.first l.row.count l.k)

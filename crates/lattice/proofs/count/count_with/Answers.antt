@@ -42,7 +42,7 @@ loop-row-preserved c =
     let rings = rings_of a.site.piece in
     let near = a.site.near.now in
     let n = length_left l.row-iterator c.in-Some.row (rows_left c.next.new.self) c.in-Some.ensures.steps in
-    let b = row_bound rings a.site.margin.least near a.cap l.t c.in-Some.row _ c.count_row-t.ensures in (
+    let b = row_bound rings a.site.margin.least near a.cap l.t _ _ _ _ _ _ c.count_row-t.ensures in (
       tt,
       tt,
       omega (arith, l.invariant.2),

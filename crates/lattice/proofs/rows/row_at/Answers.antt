@@ -1,6 +1,5 @@
--- `row_at` meets its contract: the cells of the row of a rank.
+-- `row_at` meets its contract: the row of a rank.
 -- Rests on the contracts of its calls.
-use Rattle.lattice.specs.Rows.{row_of}
 use Rattle.lattice.proofs.rows.row_at.Goals as goal
 
 pub returns-clause-x : goal.returns-clause-x
@@ -12,9 +11,5 @@ returns-clause-y c = rw c.number.ensures
 pub returns-clause-first : goal.returns-clause-first
 returns-clause-first c = rw (c.row_ends-first.ensures c.args.row_h)
 
-pub returns-clause-count : goal.returns-clause-count
-returns-clause-count c = rw (c.many.ensures, c.row_ends-first.ensures c.args.row_h)
-
-pub returns-clause-cells : goal.returns-clause-cells
-unfolding row_of
-returns-clause-cells c = rw (c.many.ensures, c.number.ensures, c.row_ends-first.ensures c.args.row_h, c.row_offset.ensures)
+pub returns-clause-last : goal.returns-clause-last
+returns-clause-last c = rw (c.row_ends-first.ensures c.args.row_h)

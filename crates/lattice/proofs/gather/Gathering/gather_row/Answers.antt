@@ -14,7 +14,7 @@ pub returns-then-row-eq0-clause-cells : goal.returns-then-row-eq0-clause-cells
 returns-then-row-eq0-clause-cells c =
     let a = c.args in
     holds_as (holds_start a.wanted.anchor a.wanted.free a.wanted.blocked (kept_of a.self.now.t) a.self.now.free.now a.self.now.blocked.now c.requires)
-    (sym (row_none _ _ _ _ _ _ _ a.row c.if-row-eq0.true))
+    (sym (row_none _ _ _ _ _ _ _ _ _ _ _ _ c.if-row-eq0.true))
 
 pub loop-k-init : goal.loop-k-init
 loop-k-init c =
@@ -30,7 +30,7 @@ loop-k-init c =
       ap (λ (cells : HexCells). gather rings a.site.margin.least near a.wanted.anchor a.wanted.free a.wanted.blocked cells (cells_in a.row))
           (sym (begun_are a.wanted.anchor a.wanted.free a.wanted.blocked (kept_of a.self.now.t) a.self.now.free.now a.self.now.blocked.now
           a.self.now.run c.requires))
-          ∙ row_start rings a.site.margin.least near a.wanted.anchor a.wanted.free a.wanted.blocked _ a.row,
+          ∙ row_start rings a.site.margin.least near a.wanted.anchor a.wanted.free a.wanted.blocked _ _ _ _ _ _,
     )
 
 pub loop-k-preserved : goal.loop-k-preserved
@@ -52,8 +52,10 @@ loop-k-preserved c =
       g.waits,
       held.2,
       l.invariant.6
-          ∙ row_turn rings a.site.margin.least near a.wanted.anchor a.wanted.free a.wanted.blocked cells a.row l.k c.loop-k-test.true _ c.cell.ensures
-          ∙ ap (λ (later : HexCells). gather_from rings a.site.margin.least near a.wanted.anchor a.wanted.free a.wanted.blocked later a.row (l.k + 1))
+          ∙ row_turn rings a.site.margin.least near a.wanted.anchor a.wanted.free a.wanted.blocked cells a.row.x a.row.y a.row.spacing a.row.first a.row.count
+          l.k c.loop-k-test.true _ c.cell.ensures
+          ∙ ap (λ (later : HexCells). gather_from rings a.site.margin.least near a.wanted.anchor a.wanted.free a.wanted.blocked later
+          a.row.x a.row.y a.row.spacing a.row.first a.row.count (l.k + 1))
           (sym g.cells_are),
     )
 
@@ -79,4 +81,4 @@ returns-clause-cells c =
     (merged_fit a.wanted.anchor a.wanted.free a.wanted.blocked l.self.t l.self.free.now l.self.blocked.now l.self.run w room) _ _ _
     (holds_merged a.wanted.anchor a.wanted.free a.wanted.blocked l.self.t l.self.free.now l.self.blocked.now l.self.run w room _ _
     merged.0 merged.1) in
-    holds_as held.2 (held.0 ∙ sym (l.invariant.6 ∙ row_done _ _ _ _ _ _ _ a.row l.k c.loop-k-test.false))
+    holds_as held.2 (held.0 ∙ sym (l.invariant.6 ∙ row_done _ _ _ _ _ _ _ _ _ _ _ _ l.k c.loop-k-test.false))

@@ -19,4 +19,4 @@ invariant-loop-k l =
     × IsWaiting w l.self
     × HoldsNow (held_by l.self) l.initial.self l.self
     × (gather rings l.site.margin.least near w.anchor w.free w.blocked (held_by l.initial.self) (cells_in l.row)
-    ≡ gather_from rings l.site.margin.least near w.anchor w.free w.blocked (gathered_by w l.self) l.row l.k)
+    ≡ gather_from rings l.site.margin.least near w.anchor w.free w.blocked (gathered_by w l.self) l.row.x l.row.y l.row.spacing l.row.first l.row.count l.k)
