@@ -39,13 +39,16 @@ fn is_enough(honoring: bool, t: Counts, n: usize) -> bool
     t.blocked >= n - free
 }
 
-// Copies cells behind the first `at` spots. C lends both as floats, two for each.
+// Copies cells behind the first `at` spots. C lends both as floats, two for each. By a loop: `copy_from_slice` calls
+// memmove, which would be a name that a caller in C must have.
 fn append(spots: &mut [f64], at: usize, cells: &[f64])
     requires { at * 2 + length cells.now ≤ length spots.old }
     ensures { spots.new ≡ paste spots.old (at * 2) cells.now (length cells.now) }
 {
     let a = at * 2;
-    spots[a..a + cells.len()].copy_from_slice(cells);
+    for (k, x) in cells.iter().enumerate() {
+        spots[a + k] = *x;
+    }
 }
 
 // How many blocked cells are wanted where `n` cells are: none by a packing that is honoring its obstacles.
@@ -114,9 +117,11 @@ impl Packing<'_> {
     }
 
     // The wanted cells nearest to the anchor: free ones first, then, where it is not honoring its obstacles, blocked ones.
-    fn take_cells(self, blocked: &mut [f64], spots: &mut [f64]) -> usize
-        requires { (self.n * 2 ≤ length blocked.old) × (self.n * 2 ≤ length spots.old) }
-        ensures { Puts (in_site field_take self.entry.site self.entry.n self.entry.field self.entry.honoring) result spots.new spots.old }
+    // The packing is lent: by value it is copied by a call of memcpy, a name that the probes' callers need not have.
+    fn take_cells(&self, blocked: &mut [f64], spots: &mut [f64]) -> usize
+        requires { (self.now.n * 2 ≤ length blocked.old) × (self.now.n * 2 ≤ length spots.old) }
+        ensures { Puts (in_site field_take self.now.site self.now.n self.now.field self.now.honoring)
+            result spots.new spots.old }
     {
         let n = self.n;
         let nb = none_if(self.honoring, n);

@@ -23,7 +23,7 @@ use regions::piece::RegionPiece;
 struct Filter<'a> {
     site: Site<'a>,
     anchor: Option<Point>,
-    halton: Halton,
+    halton: Halton<'a>,
     cells: Cells,
     ghost own_cells: { cells ≡ cells_of site.ctx site.extents.min_x site.extents.min_y },
 }
@@ -130,10 +130,12 @@ pub fn pack_low_discrepancy_piece(
     let Some(extents) = piece_bounds(piece) else {
         return 0;
     };
+    let mut halves = [0.0; 64];
+    let mut thirds = [0.0; 64];
     let filter = Filter {
         site: Site::of(piece, extents, n, ctx, obstacles, near),
         anchor,
-        halton: Halton::of_two_and_three(),
+        halton: Halton::of_two_and_three(&mut halves, &mut thirds),
         cells: Cells::of(ctx, extents.min_x, extents.min_y),
     };
     filter.passes(&mut spots[..])

@@ -1,7 +1,8 @@
 //! The writer of a sheet.
 #![tactic(auto)]
 
-ghost use Rattle.std.specs.Prelude.{◌≤◌, length};
+ghost use Rattle.std.specs.Prelude.{◌≡◌, ◌+◌, ◌≤◌, length};
+ghost use Rattle.std.proofs.lemmas.List.Edits.{sets};
 
 use format::words::{put_float, put_uint};
 
@@ -15,10 +16,20 @@ pub struct Writer<'a> {
     pub ghost few: { zones ≤ at },
 }
 
+// Puts the bytes of a key into `out` at `at`. By a loop: `copy_from_slice` calls memmove, which would be a name that a
+// caller in C must have.
+fn put_key(out: &mut [u8], at: usize, key: &[u8])
+    requires { at + length key.now ≤ length out.old }
+    ensures { out.new ≡ sets out.old at key.now }
+{
+    for (k, byte) in key.iter().enumerate() {
+        out[at + k] = *byte;
+    }
+}
+
 impl<'a> Writer<'a> {
-    ghost use Rattle.std.specs.Prelude.{◌≡◌, ◌+◌, ◌-◌, ◌*◌};
+    ghost use Rattle.std.specs.Prelude.{◌-◌, ◌*◌};
     ghost use mathlib.Core.List.{flat_map};
-    ghost use Rattle.std.proofs.lemmas.List.Edits.{sets};
     ghost use Rattle.format.specs.Numbers.{float_bytes};
     ghost use Rattle.sheet.specs.Sheet.{zone_head, sheet_head};
     ghost use Rattle.sheet.specs.Steps.{Put};
@@ -47,7 +58,7 @@ impl<'a> Writer<'a> {
         let start = self.at + 1;
         let end = start + key.len();
         put_uint(&mut self.sheet[..], self.at, 1, key.len() as u64);
-        self.sheet[start..end].copy_from_slice(key);
+        put_key(&mut self.sheet[..], start, key);
         put_uint(&mut self.sheet[..], end, 2, placed as u64);
         put_uint(&mut self.sheet[..], end + 2, 2, unplaced as u64);
         self.at = end + 4;

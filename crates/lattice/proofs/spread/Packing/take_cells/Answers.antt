@@ -16,15 +16,16 @@ pub returns : goal.returns
 unfolding field_take
 returns c =
     let a = c.args in
-    let piece = rings_of a.self.site.piece in
-    let near = a.self.site.near.now in
-    let cells = cells_of a.self.field piece a.self.site.margin.least near never in
+    let p = a.self.now in
+    let piece = rings_of p.site.piece in
+    let near = p.site.near.now in
+    let cells = cells_of p.field piece p.site.margin.least near never in
     let done =
-    fill a.self.n (kept a.self.field.anchor a.self.n c.none_if-nb.result cells) _ _ _ _ _ c.gather_cells-t.ensures
-    (omega (arith, length-take a.self.n (sort_by_anchor a.self.field.anchor cells.free))) c.requires.1 _ c.min-more.ensures in
-    let e : filled a.self.n (kept a.self.field.anchor a.self.n c.none_if-nb.result cells) ≡ field_take piece a.self.site.margin.least near a.self.n
-    a.self.field a.self.honoring =
-    rw c.none_if-nb.ensures (sym (taken a.self.n a.self.field.anchor cells a.self.honoring)) in
+    fill p.n (kept p.field.anchor p.n c.none_if-nb.result cells) _ _ _ _ _ c.gather_cells-t.ensures
+    (omega (arith, length-take p.n (sort_by_anchor p.field.anchor cells.free))) c.requires.1 _ c.min-more.ensures in
+    let e : filled p.n (kept p.field.anchor p.n c.none_if-nb.result cells) ≡ field_take piece p.site.margin.least near p.n
+    p.field p.honoring =
+    rw c.none_if-nb.ensures (sym (taken p.n p.field.anchor cells p.honoring)) in
     let b = c.gather_cells-t.new.blocked in
     let m = c.min-more.result * 2 in
     let front : length (take m b) ≡ m = length-take-le m b (omega (arith, c.requires.0, c.min-more.ensures, c.gather_cells-t.auto.blocked)) in
