@@ -17,12 +17,12 @@
 typedef struct { double x, y; } probe_point;
 typedef struct { double center_x, center_y, width, height; } probe_rectangle;
 
-/* What a packer is told. */
+/* What a packer is told. `spread` and `strict`: 1 is yes, any other byte no. */
 typedef struct {
     double radius, gap, boundary_gap, precision;
     size_t quota;
     uint32_t attempts;
-    _Bool spread, strict;
+    uint8_t spread, strict;
 } probe_packing;
 
 #define PIECE                                                                  \
@@ -73,15 +73,14 @@ uint8_t probe_deepest_point(PIECE, double precision, WORK, double found[3],
 double probe_depth(PIECE, double precision, double *cells, size_t cell_floats);
 
 /* discs.rs, each packer on one piece with its quota (at least 1). `state` is
- * the stream's, before and after; only Random changes it, and only it uses the
- * flags, one for each mark of the quota. The answer is the number of spots;
- * `spots` begins with them, x and y in turn, and has room for the quota. A
- * lattice that is not spread is strict and only counted. The piece's search has
- * at most 1,600 cells waiting. */
+ * the stream's, before and after; only Random changes it. The answer is the
+ * number of spots; `spots` begins with them, x and y in turn, and has room for
+ * the quota. A lattice that is not spread is strict and only counted. Random
+ * packs 8,000 marks at the most, one for each float of a work slice. The
+ * piece's search has at most 1,600 cells waiting. */
 #define PACKER(name)                                                           \
-    size_t name(PIECE, OBSTACLES, const probe_packing *packing,              \
-                uint64_t *state, WORK, _Bool *flags, size_t flag_count,        \
-                double *spots, size_t spot_floats)
+    size_t name(PIECE, OBSTACLES, const probe_packing *packing,                \
+                uint64_t *state, WORK, double *spots, size_t spot_floats)
 PACKER(probe_pack_uniform);
 PACKER(probe_pack_rectangular);
 PACKER(probe_pack_low_discrepancy);

@@ -12,7 +12,8 @@ use regions::piece::RegionPiece;
 use scatter::low::{lone_anchor, pack_low_discrepancy_piece};
 use scatter::random::pack_random_piece;
 
-// What a packer is packing, as probes.h has it: an arrangement's own function says which.
+// What a packer is packing, as probes.h has it: an arrangement's own function says which. Of `spread` and `strict` 1 is
+// yes, and any other byte no.
 #[derive(Clone, Copy)]
 #[repr(C)]
 pub struct Packing {
@@ -22,16 +23,16 @@ pub struct Packing {
     pub precision: f64,
     pub quota: usize,
     pub attempts: u32,
-    pub spread: bool,
-    pub strict: bool,
+    pub spread: u8,
+    pub strict: u8,
 }
 
 // What is packed at; a trial of a lattice, which is not spread, is strict.
-fn context(packing: &Packing, strict: bool) -> PackCtx
-    ensures { (result.mode.spread ≡ packing.now.spread) × (result.mode.strict_obstacles ≡ strict) }
+fn context(packing: &Packing, spread: bool, strict: bool) -> PackCtx
+    ensures { (result.mode.spread ≡ spread) × (result.mode.strict_obstacles ≡ strict) }
 {
     let mode = PackMode {
-        spread: packing.spread,
+        spread,
         strict_obstacles: strict,
     };
     PackCtx {
@@ -65,8 +66,8 @@ fn pack_lattice(
     let poi = Point { x, y };
     let n = packing.quota;
     let mut near = [Rectangle::default(); 64];
-    if packing.spread {
-        let ctx = context(packing, packing.strict);
+    if packing.spread == 1 {
+        let ctx = context(packing, true, packing.strict == 1);
         return pack_uniform_piece(
             poi,
             piece,
@@ -79,7 +80,7 @@ fn pack_lattice(
             spots,
         );
     }
-    let ctx = context(packing, true);
+    let ctx = context(packing, false, true);
     probe_uniform_piece(poi, piece, n, ctx, obstacles, rectangular, &mut near[..])
 }
 
@@ -93,7 +94,6 @@ pub extern "C" fn probe_pack_uniform(
     state: &mut u64,
     first: &mut [f64],
     second: &mut [f64],
-    flags: &mut [bool],
     spots: &mut [f64],
 ) -> usize
     requires outer { 0 < length sizes.now }
@@ -117,7 +117,6 @@ pub extern "C" fn probe_pack_rectangular(
     state: &mut u64,
     first: &mut [f64],
     second: &mut [f64],
-    flags: &mut [bool],
     spots: &mut [f64],
 ) -> usize
     requires outer { 0 < length sizes.now }
@@ -151,7 +150,7 @@ fn lone_place(
     let Deepest::Found(x, y, _) = found else {
         return None;
     };
-    let ctx = context(packing, packing.strict);
+    let ctx = context(packing, packing.spread == 1, packing.strict == 1);
     lone_anchor(Point { x, y }, piece, n, ctx, obstacles, near)
 }
 
@@ -164,7 +163,6 @@ pub extern "C" fn probe_pack_low_discrepancy(
     state: &mut u64,
     first: &mut [f64],
     second: &mut [f64],
-    flags: &mut [bool],
     spots: &mut [f64],
 ) -> usize
     requires outer { 0 < length sizes.now }
@@ -173,7 +171,7 @@ pub extern "C" fn probe_pack_low_discrepancy(
     requires first { 8000 ≤ length first.old }
     requires spots { packing.now.quota * 2 ≤ length spots.old }
 {
-    let ctx = context(packing, packing.strict);
+    let ctx = context(packing, packing.spread == 1, packing.strict == 1);
     let mut near = [Rectangle::default(); 64];
     let piece = RegionPiece { sizes, points };
     let anchor = lone_place(piece, packing, obstacles, &mut near[..], first);
@@ -188,6 +186,8 @@ pub extern "C" fn probe_pack_low_discrepancy(
     )
 }
 
+// Relaxation's flags are not lent by C: there is one for each float of a work slice, as long as probes.h has them, and no
+// more marks are packed.
 #[unsafe(no_mangle)]
 pub extern "C" fn probe_pack_random(
     sizes: &[usize],
@@ -197,30 +197,30 @@ pub extern "C" fn probe_pack_random(
     state: &mut u64,
     first: &mut [f64],
     second: &mut [f64],
-    flags: &mut [bool],
     spots: &mut [f64],
 ) -> usize
     requires outer { 0 < length sizes.now }
     requires within { sum sizes.now ≤ length points.now }
     requires obstacles { length obstacles.now ≤ 64 }
     requires first { packing.now.quota ≤ length first.old }
-    requires flags { packing.now.quota ≤ length flags.old }
+    requires second { packing.now.quota ≤ length second.old }
     requires spots { packing.now.quota * 2 ≤ length spots.old }
 {
-    let ctx = context(packing, packing.strict);
+    let ctx = context(packing, packing.spread == 1, packing.strict == 1);
     let rng = Stream { state: *state };
     let mut near = [Rectangle::default(); 64];
+    let mut flags = [false; 8000];
     let taken = pack_random_piece(
         relax::Spreading::SOURCE,
         RegionPiece { sizes, points },
-        packing.quota,
+        packing.quota.min(8000),
         packing.attempts,
         ctx,
         obstacles,
         rng,
         &mut near[..],
         first,
-        flags,
+        &mut flags[..],
         spots,
     );
     *state = taken.rng.state;

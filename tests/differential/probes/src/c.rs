@@ -20,8 +20,8 @@ pub struct ProbePacking {
     pub precision: f64,
     pub quota: usize,
     pub attempts: u32,
-    pub spread: bool,
-    pub strict: bool,
+    pub spread: u8,
+    pub strict: u8,
 }
 
 /// Functions that are lent a piece before all else.
@@ -88,7 +88,6 @@ macro_rules! packers {
                 state: &mut u64,
                 first: *mut f64, first_length: usize,
                 second: *mut f64, second_length: usize,
-                flags: *mut bool, flag_count: usize,
                 spots: *mut f64, spot_floats: usize,
             ) -> usize;)*
         }

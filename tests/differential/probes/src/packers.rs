@@ -33,11 +33,10 @@ impl Piece<'_> {
             precision: packing.precision,
             quota: packing.quota,
             attempts: packing.attempts,
-            spread: packing.spread,
-            strict: packing.strict,
+            spread: packing.spread.into(),
+            strict: packing.strict.into(),
         };
         let (mut first, mut second) = (vec![0.0; WORK_FLOATS], vec![0.0; WORK_FLOATS]);
-        let mut flags = vec![false; packing.quota];
         let mut buffer = vec![0.0; 2 * packing.quota];
         let mut state = packing.state;
         let placed = call!(
@@ -51,8 +50,6 @@ impl Piece<'_> {
             first.len(),
             second.as_mut_ptr(),
             second.len(),
-            flags.as_mut_ptr(),
-            flags.len(),
             buffer.as_mut_ptr(),
             buffer.len(),
         );
