@@ -14,18 +14,42 @@ fn whole_above(x: f64) -> u64
     n + ((n as f64) < x) as u64
 }
 
-// `f64::floor`.
+// `f64::floor`. The kit's takes the same whatever x is, and quotas of small shares twice as long by it.
 pub fn floor(x: f64) -> f64
     ensures { result ≡ floor x }
 {
-    x.floor()
+    if x > 0.0 {
+        if x < 9007199254740992.0 {
+            std::num::truncating_f64_to_u64(x) as f64
+        } else {
+            x
+        }
+    } else if x < 0.0 {
+        if x > -9007199254740992.0 {
+            -(whole_above(-x) as f64)
+        } else {
+            x
+        }
+    } else {
+        x
+    }
 }
 
-// `as i64`.
+// `as i64`, by range tests and a cut: its ends stand here, where an edit of one is refused.
 pub fn as_i64(x: f64) -> i64
     ensures { result ≡ as_i64 x }
 {
-    std::num::saturating_f64_to_i64(x)
+    if x >= -9223372036854775808.0 {
+        if x < 9223372036854775808.0 {
+            std::num::truncating_f64_to_i64(x)
+        } else {
+            i64::MAX
+        }
+    } else if x < 0.0 {
+        i64::MIN
+    } else {
+        0
+    }
 }
 
 // `floor() as i64`. Only below zero does it differ from `as i64`, and not from -2^53 down. The kit's floor and then the cast

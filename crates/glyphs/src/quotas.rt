@@ -1,6 +1,7 @@
 // glyphs.rs, `apportion`: a count over weights by largest remainder. The quotas are found one by one: the
 // source's sorted order is asked only how many indices come before one.
-ghost use Rattle.std.specs.Prelude.{◌≡◌, ◌^◌, ◌<◌, ◌≤◌, length};
+ghost use Rattle.std.specs.Prelude.{◌≡◌, ◌^◌, ◌<◌, ◌≤◌, length, slice_index_or};
+ghost use Rattle.std.specs.Float.{nan};
 ghost use Rattle.laws.specs.Lists.{up_to, written};
 ghost use Rattle.laws.specs.Sorted.{rank};
 ghost use Rattle.laws.specs.Orders.{is_lt};
@@ -50,24 +51,26 @@ impl<'a> Shares<'a> {
         float::total_key(s - float::floor(s))
     }
 
-    // Whether index j comes before index i. The source's order has a place for NaN, so keys are compared and not floats.
-    fn before(&self, j: usize, i: usize) -> bool
+    // Whether index j comes before index i, whose remainder's key is `a`. The source's order has a place for NaN, so keys are
+    // compared and not floats.
+    fn before(&self, j: usize, i: usize, a: u64) -> bool
         requires inside_j { j < length self.now.weights.now }
         requires inside_i { i < length self.now.weights.now }
+        requires key { a ≡ total_key (remainder self.now.n self.now.total (slice_index_or self.now.weights.now i nan)) }
         ensures { result ≡ is_lt (by_remainder (rems self.now.n self.now.total self.now.weights.now) j i) }
     {
-        let a = self.remainder_key(self.weights[i]);
         let b = self.remainder_key(self.weights[j]);
         (a, j) < (b, i)
     }
 
-    // How many indices come before index i.
+    // How many indices come before index i. Its key is worked out once: each takes a division.
     fn rank_of(&self, i: usize) -> u64
         requires { i < length self.now.weights.now }
         ensures { result ≡ rank (by_remainder (rems self.now.n self.now.total self.now.weights.now)) i (up_to (length self.now.weights.now)) }
     {
+        let a = self.remainder_key(self.weights[i]);
         (0..self.weights.len())
-            .filter(|j| self.before(*j, i))
+            .filter(|j| self.before(*j, i, a))
             .count() as u64
     }
 

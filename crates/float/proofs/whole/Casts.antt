@@ -1,10 +1,58 @@
--- Small words as signed integers. Assumes nothing.
-use Rattle.std.proofs.Common.{◌≡◌, ℕ, zero, suc, ◌^◌, ◌<◌, ◌≤◌, ℤ, pos, ◌-ℤ◌, neg_ℤ}
-use Rattle.std.proofs.Common.{sym, ap, ◌∙◌, subst, arith, w64, SFits, to_z, of_z}
+-- Where a value is out of the range of an `i64` the cast is the end of the range, and 0 for a NaN. And small words as signed
+-- integers. Assumes nothing.
+use Rattle.std.proofs.Common.{◌≡◌, ℕ, zero, suc, ◌+◌, ◌-◌, ◌*◌, ◌/◌, ◌^◌, ◌<◌, ◌≤◌, min, true, false, not, T, ltb, ℤ, pos, negsuc}
+use Rattle.std.proofs.Common.{◌-ℤ◌, neg_ℤ, sym, refl, ap, ◌∙◌, subst, le-div_iff_mul-le, arith, ltb→lt, nltb→le}
+use Rattle.std.proofs.Common.{w64, SFits, to_z, of_z}
 use lib.IntN.{+ℤ_idl}
+use lib.Ieee.{Float, nan, inf, fin, up, down, lt, le, eq, to_signed}
+use lib.Ieee.Fits.{down_pos}
 use mir.ValLaws.{to_z_pos, to_z-of_z}
+use Rattle.laws.specs.Truth.{nor_l}
+use Rattle.float.specs.Whole.{as_i64}
+use Rattle.float.specs.Laws.Zero.{origin}
+use Rattle.float.proofs.whole.Whole.{past}
 
--- a small word as an `i64`, and 0 less it
+-- the lower end of the range
+abbrev pub least : Float
+least = fin true 1 (pos 63)
+
+-- a size of p or more
+far : (m : ℕ) (e : ℤ) (p : ℕ) → T (not (ltb (m * up e * 1) (1 * p * down e))) → p ≤ m * up e / down e
+far m e p h = let k = nltb→le (m * up e * 1) (1 * p * down e) h in (le-div_iff_mul-le (down_pos e)).1 (omega arith)
+
+pub signed_high : (x : Float) → T (le least x) → T (not (lt x (past 63))) → pos (2 ^ 63 - 1) ≡ as_i64 x
+unfolding le lt eq to_signed
+signed_high nan l h = absurd l
+signed_high (inf true) l h = absurd l
+signed_high (inf false) l h = refl
+signed_high (fin true m e) l h = let k = nltb→le 0 (m * up e * 1 + 1 * 2 ^ 63 * down e) h in absurd (omega (arith, down_pos e))
+signed_high (fin false m e) l h = let k = far m e (2 ^ 63) h in ap pos (omega arith)
+
+pub signed_low : (x : Float) → T (not (le least x)) → T (lt x origin) → negsuc (2 ^ 63 - 1) ≡ as_i64 x
+unfolding le lt eq to_signed
+signed_low nan l h = absurd h
+signed_low (inf true) l h = refl
+signed_low (inf false) l h = absurd h
+signed_low (fin true m e) l h =
+    let k = far m e (2 ^ 63) (nor_l (ltb (m * up e * 1) (1 * 2 ^ 63 * down e)) (eq least (fin true m e)) l) in
+    let full : 2 ^ 63 ≡ min (m * up e / down e) (2 ^ 63) = omega arith in
+    ap (λ (n : ℕ). neg_ℤ (pos n)) full
+signed_low (fin false m e) l h = let k = ltb→lt (m * up e * 1) (0 * down e) h in absurd (omega arith)
+
+pub signed_none : (x : Float) → T (not (le least x)) → T (not (lt x origin)) → pos 0 ≡ as_i64 x
+unfolding le lt eq to_signed
+signed_none nan l h = refl
+signed_none (inf true) l h = absurd h
+signed_none (inf false) l h = absurd l
+signed_none (fin true m e) l h =
+    let k = nltb→le (m * up e * 1) (1 * 2 ^ 63 * down e) (nor_l (ltb (m * up e * 1) (1 * 2 ^ 63 * down e)) (eq least (fin true m e)) l) in
+    let n = nltb→le 0 (m * up e * 1 + 0 * down e) h in
+    absurd (omega (arith, down_pos e))
+signed_none (fin false m e) l h =
+    let k = nltb→le 0 (1 * 2 ^ 63 * down e + m * up e * 1) (nor_l (ltb 0 (1 * 2 ^ 63 * down e + m * up e * 1)) (eq least (fin false m e)) l) in
+    absurd (omega (arith, down_pos e))
+
+-- ---- a small word as an `i64`, and 0 less it
 module _ (n : ℕ) (small : n ≤ 2 ^ 53) where
   fits : n < 2 ^ 63
   fits = omega arith

@@ -1,19 +1,19 @@
 -- What the code of the whole parts does, by the value's form: its range tests, the number that it cuts to, and the test whether that lies below the value.
 -- Rests on `Laws/Whole.antt`.
-use Rattle.std.proofs.Common.{◌≡◌, ℕ, zero, suc, ◌+◌, ◌-◌, ◌*◌, ◌/◌, ◌^◌, ◌<◌, ◌≤◌, min, Bool, true, false, T, ltb}
+use Rattle.std.proofs.Common.{◌≡◌, ℕ, zero, suc, ◌+◌, ◌-◌, ◌*◌, ◌/◌, ◌^◌, ◌<◌, ◌≤◌, min, Bool, true, false, not, T, ltb}
 use Rattle.std.proofs.Common.{ℤ, pos, neg_ℤ, sym, refl, ap, ◌∙◌, subst, true≢false, le_of_lt, mul-le-mul_right}
-use Rattle.std.proofs.Common.{mul-lt-mul_of_pos_right, arith, ltb→lt, lt→ltb, ltb-false, ltb-true, le-ltb, lt-ltb}
+use Rattle.std.proofs.Common.{mul-lt-mul_of_pos_right, arith, ltb→lt, lt→ltb, nltb→le, T_not, ltb-false, ltb-true, le-ltb, lt-ltb}
 use lib.Ieee.{Float, nan, inf, fin, binary64, up, down, neg, round, lt, fits, of_int, to_unsigned}
 use Rattle.std.specs.Float.{round_with, ratio_floor, ratio_ceil}
 use Rattle.std.proofs.Math.Nat.{div-eq_of_lt}
-use lib.Ieee.Fits.{down_pos, round-fits}
+use lib.Ieee.Fits.{down_pos, neg-fits, round-fits}
 use lib.Ieee.Exact.{HasValue}
 use lib.Ieee.Back.{round_whole, whole_unique}
 use mir.Val.{bool_byte}
 use Rattle.float.specs.Whole.{floor, ceil, as_i64, as_usize}
-use Rattle.float.specs.Laws.Zero.{origin, positive_above, zero_not_above, zero_not_below}
+use Rattle.float.specs.Laws.Zero.{origin, positive_above, negative_below, zero_not_above, zero_not_below}
 use Rattle.float.specs.Laws.Whole.{under, over, Small, bound, under_lt, over_is, over_le}
-use Rattle.float.specs.Laws.Whole.{floor_below, ceil_above, signed_value, unsigned_value}
+use Rattle.float.specs.Laws.Whole.{floor_large, floor_fits, floor_below, ceil_above, neg_value, signed_value, unsigned_value}
 
 -- ---- the values above zero and below 2 ^ 53, and those below zero and above -2 ^ 53
 abbrev pub Sized : Bool → Float → Type 0
@@ -92,6 +92,10 @@ module _ (x : Float) (n : ℕ) (cut : n ≡ to_unsigned 64 x) where
   pub cut_lt : Sized false x → n < 2 ^ 53
   cut_lt (m, e, i, h) = rw (cut, i, cut_is m e h) (under_lt (suc m) e h)
 
+  pub cut_floor : Sized false x → of_int binary64 (pos n) ≡ floor x
+  unfolding of_int floor under
+  cut_floor (m, e, i, h) = rw (cut, i, cut_is m e h) refl
+
   pub cut_above : Sized false x → n + bool_byte (lt (of_int binary64 (pos n)) x) ≡ as_usize (ceil x)
   unfolding of_int
   cut_above (m, e, i, h) =
@@ -121,7 +125,41 @@ module _ (x : Float) (n : ℕ) (above : n ≡ as_usize (ceil (neg x))) where
       let capped : n ≡ min n (2 ^ 63) = omega (arith, above_le (neg x) n above (neg_sized x z)) in
       ap (λ (k : ℕ). neg_ℤ (pos k)) capped ∙ sym (signed_value (floor x) true n (below_value z))
 
--- ---- the kit's floor
+  pub below_floor : T (fits binary64 x) → Sized true x → neg (of_int binary64 (pos n)) ≡ floor x
+  unfolding of_int
+  below_floor t z =
+      let r = round binary64 false n 1 in
+      whole_unique binary64 (neg r) (floor x) true n (neg-fits binary64 r (round-fits binary64 false n 1)) (floor_fits x t)
+      (neg_value r false n 1 (round_whole binary64 false n (above_le (neg x) n above (neg_sized x z)))) (below_value z)
+
+-- ---- the values that are their own floors
+pub floor_far_above : (x : Float) → T (fits binary64 x) → T (lt origin x) → T (not (lt x (bound false))) → x ≡ floor x
+unfolding floor lt
+floor_far_above nan t l h = refl
+floor_far_above (inf s) t l h = refl
+floor_far_above (fin true m e) t l h = absurd l
+floor_far_above (fin false zero e) t l h = refl
+floor_far_above (fin false (suc m) e) t l h = sym (floor_large false m e t (let k = nltb→le (suc m * up e * 1) (1 * 2 ^ 53 * down e) h in omega arith))
+
+pub floor_far_below : (x : Float) → T (fits binary64 x) → T (lt x origin) → T (not (lt (bound true) x)) → x ≡ floor x
+unfolding floor lt
+floor_far_below nan t l h = refl
+floor_far_below (inf s) t l h = refl
+floor_far_below (fin false zero e) t l h = refl
+floor_far_below (fin false (suc m) e) t l h = let k = ltb→lt (suc m * up e * 1) (0 * down e) l in absurd (omega arith)
+floor_far_below (fin true zero e) t l h = refl
+floor_far_below (fin true (suc m) e) t l h = sym (floor_large true m e t (let k = nltb→le (suc m * up e * 1) (1 * 2 ^ 53 * down e) h in omega arith))
+
+pub floor_zero : (x : Float) → T (not (lt origin x)) → T (not (lt x origin)) → x ≡ floor x
+unfolding floor
+floor_zero nan l h = refl
+floor_zero (inf s) l h = refl
+floor_zero (fin true zero e) l h = refl
+floor_zero (fin false zero e) l h = refl
+floor_zero (fin false (suc m) e) l h = absurd (T_not (lt origin (fin false (suc m) e)) l (positive_above m e))
+floor_zero (fin true (suc m) e) l h = absurd (T_not (lt (fin true (suc m) e) origin) h (negative_below m e))
+
+-- ---- the kit's floor is the same
 zero_rounded : (s : Bool) (n : ℕ) (e : ℤ) → n ≡ 0 → T (fits binary64 (fin s zero e)) → round binary64 s n 1 ≡ fin s zero e
 zero_rounded s n e z t =
     whole_unique binary64 (round binary64 s n 1) (fin s zero e) s n (round-fits binary64 s n 1) t

@@ -34,7 +34,6 @@ pub returns : goal.returns
 returns c =
     let a = c.args in
     let s = a.self.now in
-    let key = c.remainder_key-a.result in
     let other = c.remainder_key-b.result in
-    rw (by_keys s.n s.total s.weights.now a.i a.j nan (search rules) (search rules), ← c.remainder_key-a.ensures, ← c.remainder_key-b.ensures)
-    (c.lt.ensures ∙ rw (of_compare key other, of_compare a.j a.i) (of_both (compare key other) (compare a.j a.i)))
+    rw (by_keys s.n s.total s.weights.now a.i a.j nan (search rules) (search rules), ← c.requires.key, ← c.remainder_key-b.ensures)
+    (c.lt.ensures ∙ rw (of_compare a.a other, of_compare a.j a.i) (of_both (compare a.a other) (compare a.j a.i)))
