@@ -1,6 +1,9 @@
 -- `inside_piece` meets its contract. The invariant: the answer is that of the holes which are left.
 -- Rests on what the iterator yields, and on the law of a piece without holes.
 use mathlib.Core.Bool.{and-true}
+use mathlib.Core.Path.{◌≡◌}
+use native.Mathlib.Omega.{arith}
+use lib.ListN.{length}
 use Rattle.regions.specs.Ring.{outer, holes}
 use Rattle.regions.specs.Pieces.{alone}
 use Rattle.regions.specs.Clearance.{in_any, within}
@@ -8,7 +11,10 @@ use Rattle.regions.proofs.clearance.inside_piece.Goals as goal
 
 pub returns-then-piece-eq1 : goal.returns-then-piece-eq1
 unfolding within outer holes in_any
-returns-then-piece-eq1 c = rw (alone _ _ c.if-piece-eq1.true, and-true, ← c.outer.ensures.ring) c.point_in_polygon-inside.ensures
+returns-then-piece-eq1 c =
+    let p = c.args.piece in
+    let one : length p.sizes.now ≡ 1 = omega (arith, c.if-piece-eq1.true) in
+    rw (alone p.sizes.now p.points.now one, and-true, ← c.outer.ensures.ring) c.point_in_polygon-inside.ensures
 
 pub returns-then-not-inside : goal.returns-then-not-inside
 unfolding within
