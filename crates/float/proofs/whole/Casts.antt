@@ -1,16 +1,16 @@
--- Where a value is out of the range of an `i64` the cast is the end of the range, and 0 for a NaN. And small words as signed
--- integers. Assumes nothing.
+-- Where a value is out of range the cast is the end of the range, and 0 for a NaN. And small words as signed integers. Assumes
+-- nothing.
 use Rattle.std.proofs.Common.{◌≡◌, ℕ, zero, suc, ◌+◌, ◌-◌, ◌*◌, ◌/◌, ◌^◌, ◌<◌, ◌≤◌, min, true, false, not, T, ltb, ℤ, pos, negsuc}
 use Rattle.std.proofs.Common.{◌-ℤ◌, neg_ℤ, sym, refl, ap, ◌∙◌, subst, le-div_iff_mul-le, arith, ltb→lt, nltb→le}
 use Rattle.std.proofs.Common.{w64, SFits, to_z, of_z}
 use lib.IntN.{+ℤ_idl}
-use lib.Ieee.{Float, nan, inf, fin, up, down, lt, le, eq, to_signed}
+use lib.Ieee.{Float, nan, inf, fin, up, down, lt, le, eq, to_signed, to_unsigned}
 use lib.Ieee.Fits.{down_pos}
 use mir.ValLaws.{to_z_pos, to_z-of_z}
 use Rattle.laws.specs.Truth.{nor_l}
-use Rattle.float.specs.Whole.{as_i64}
+use Rattle.float.specs.Whole.{as_i64, as_usize}
 use Rattle.float.specs.Laws.Zero.{origin}
-use Rattle.float.proofs.whole.Whole.{past}
+use Rattle.float.proofs.whole.Whole.{minus_one, past}
 
 -- the lower end of the range
 abbrev pub least : Float
@@ -51,6 +51,22 @@ signed_none (fin true m e) l h =
 signed_none (fin false m e) l h =
     let k = nltb→le 0 (1 * 2 ^ 63 * down e + m * up e * 1) (nor_l (ltb 0 (1 * 2 ^ 63 * down e + m * up e * 1)) (eq least (fin false m e)) l) in
     absurd (omega (arith, down_pos e))
+
+pub unsigned_high : (x : Float) → T (lt minus_one x) → T (not (lt x (past 64))) → 2 ^ 64 - 1 ≡ as_usize x
+unfolding lt to_unsigned
+unsigned_high nan l h = absurd l
+unsigned_high (inf true) l h = absurd l
+unsigned_high (inf false) l h = refl
+unsigned_high (fin true m e) l h = let k = nltb→le 0 (m * up e * 1 + 1 * 2 ^ 64 * down e) h in absurd (omega (arith, down_pos e))
+unsigned_high (fin false m e) l h = let k = far m e (2 ^ 64) h in omega arith
+
+pub unsigned_none : (x : Float) → T (not (lt minus_one x)) → 0 ≡ as_usize x
+unfolding lt to_unsigned
+unsigned_none nan h = refl
+unsigned_none (inf true) h = refl
+unsigned_none (inf false) h = absurd h
+unsigned_none (fin true m e) h = refl
+unsigned_none (fin false m e) h = let k = nltb→le 0 (1 * down e + m * up e * 1) h in absurd (omega (arith, down_pos e))
 
 -- ---- a small word as an `i64`, and 0 less it
 module _ (n : ℕ) (small : n ≤ 2 ^ 53) where
