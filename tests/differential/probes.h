@@ -17,13 +17,21 @@
 typedef struct { double x, y; } probe_point;
 typedef struct { double center_x, center_y, width, height; } probe_rectangle;
 
-/* What a packer is told. `spread` and `strict`: 1 is yes, any other byte no. */
+/* What a packer is told. */
+typedef struct {
+    double radius, gap, boundary_gap, precision;
+    size_t quota;
+    uint32_t attempts;
+    _Bool spread, strict;
+} probe_packing;
+
+/* The same with bytes: 1 is yes, any other byte no. */
 typedef struct {
     double radius, gap, boundary_gap, precision;
     size_t quota;
     uint32_t attempts;
     uint8_t spread, strict;
-} probe_packing;
+} probe_packing_bytes;
 
 #define PIECE                                                                  \
     const uint64_t *ring_sizes, size_t rings,                                  \
@@ -73,18 +81,30 @@ uint8_t probe_deepest_point(PIECE, double precision, WORK, double found[3],
 double probe_depth(PIECE, double precision, double *cells, size_t cell_floats);
 
 /* discs.rs, each packer on one piece with its quota (at least 1). `state` is
- * the stream's, before and after; only Random changes it. The answer is the
- * number of spots; `spots` begins with them, x and y in turn, and has room for
- * the quota. A lattice that is not spread is strict and only counted. Random
- * packs 8,000 marks at the most, one for each float of a work slice. The
- * piece's search has at most 1,600 cells waiting. */
+ * the stream's, before and after; only Random changes it, and only it asks for
+ * flags, one for each mark of the quota. It writes them where that is over 8,000
+ * or over the floats of the second slice, which for it may be any number. The
+ * answer is the number of spots; `spots` begins with them, x and y in turn, and
+ * has room for the quota. A lattice that is not spread is strict and only
+ * counted. The piece's search has at most 1,600 cells waiting. */
 #define PACKER(name)                                                           \
     size_t name(PIECE, OBSTACLES, const probe_packing *packing,                \
-                uint64_t *state, WORK, double *spots, size_t spot_floats)
+                uint64_t *state, WORK, _Bool *flags, size_t flag_count,        \
+                double *spots, size_t spot_floats)
 PACKER(probe_pack_uniform);
 PACKER(probe_pack_rectangular);
 PACKER(probe_pack_low_discrepancy);
 PACKER(probe_pack_random);
+
+/* The same, told by bytes and lent no flags. Random packs 8,000 marks at the
+ * most here, one for each float of a work slice. */
+#define PACKER_NO_FLAGS(name)                                                  \
+    size_t name(PIECE, OBSTACLES, const probe_packing_bytes *packing,          \
+                uint64_t *state, WORK, double *spots, size_t spot_floats)
+PACKER_NO_FLAGS(probe_pack_uniform_no_flags);
+PACKER_NO_FLAGS(probe_pack_rectangular_no_flags);
+PACKER_NO_FLAGS(probe_pack_low_discrepancy_no_flags);
+PACKER_NO_FLAGS(probe_pack_random_no_flags);
 
 /* relax.rs relax_scatter on the spots; obstacles are those near the piece. */
 void probe_relax_scatter(PIECE, OBSTACLES, double spacing, double inset,

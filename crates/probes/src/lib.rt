@@ -17,6 +17,7 @@ use regions::keeps::{clearance_at_least, clears};
 use regions::margin::Margin;
 use regions::piece::RegionPiece;
 
+mod no_flags;
 mod packers;
 
 #[unsafe(no_mangle)]

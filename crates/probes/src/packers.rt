@@ -2,6 +2,10 @@
 ghost use Rattle.std.specs.Prelude.{◌≡◌, ◌*◌, ◌<◌, ◌≤◌, length};
 ghost use Rattle.regions.specs.Ring.{sum};
 
+use crate::no_flags::{
+    probe_pack_low_discrepancy_no_flags, probe_pack_random_no_flags,
+    probe_pack_rectangular_no_flags, probe_pack_uniform_no_flags,
+};
 use deepest::search::{Deepest, deepest_point};
 use glyphs::mode::PackMode;
 use glyphs::rect::{Point, Rectangle};
@@ -9,11 +13,11 @@ use glyphs::stream::Stream;
 use lattice::context::PackCtx;
 use lattice::uniform::{pack_uniform_piece, probe_uniform_piece};
 use regions::piece::RegionPiece;
-use scatter::low::{lone_anchor, pack_low_discrepancy_piece};
+use scatter::low::lone_anchor;
 use scatter::random::pack_random_piece;
 
 // What a packer is packing, as probes.h has it: an arrangement's own function says which. Of `spread` and `strict` 1 is
-// yes, and any other byte no.
+// yes, and any other byte no; a truth value of C is one of the bytes 0 and 1.
 #[derive(Clone, Copy)]
 #[repr(C)]
 pub struct Packing {
@@ -28,7 +32,7 @@ pub struct Packing {
 }
 
 // What is packed at; a trial of a lattice, which is not spread, is strict.
-fn context(packing: &Packing, spread: bool, strict: bool) -> PackCtx
+pub fn context(packing: &Packing, spread: bool, strict: bool) -> PackCtx
     ensures { (result.mode.spread ≡ spread) × (result.mode.strict_obstacles ≡ strict) }
 {
     let mode = PackMode {
@@ -44,7 +48,7 @@ fn context(packing: &Packing, spread: bool, strict: bool) -> PackCtx
 }
 
 // The lattice packer; a trial only counts. `rectangular` is data, as in the packer itself.
-fn pack_lattice(
+pub fn pack_lattice(
     rectangular: bool,
     piece: RegionPiece,
     obstacles: &[Rectangle],
@@ -84,55 +88,8 @@ fn pack_lattice(
     probe_uniform_piece(poi, piece, n, ctx, obstacles, rectangular, &mut near[..])
 }
 
-// The packers are four functions of one form to C: what one of them does not need, it leaves alone.
-#[unsafe(no_mangle)]
-pub extern "C" fn probe_pack_uniform(
-    sizes: &[usize],
-    points: &[Point],
-    obstacles: &[Rectangle],
-    packing: &Packing,
-    state: &mut u64,
-    first: &mut [f64],
-    second: &mut [f64],
-    spots: &mut [f64],
-) -> usize
-    requires outer { 0 < length sizes.now }
-    requires within { sum sizes.now ≤ length points.now }
-    requires obstacles { length obstacles.now ≤ 64 }
-    requires first { 8000 ≤ length first.old }
-    requires some { 0 < packing.now.quota }
-    requires second { packing.now.quota * 2 ≤ length second.old }
-    requires spots { packing.now.quota * 2 ≤ length spots.old }
-{
-    let piece = RegionPiece { sizes, points };
-    pack_lattice(false, piece, obstacles, packing, first, second, spots)
-}
-
-#[unsafe(no_mangle)]
-pub extern "C" fn probe_pack_rectangular(
-    sizes: &[usize],
-    points: &[Point],
-    obstacles: &[Rectangle],
-    packing: &Packing,
-    state: &mut u64,
-    first: &mut [f64],
-    second: &mut [f64],
-    spots: &mut [f64],
-) -> usize
-    requires outer { 0 < length sizes.now }
-    requires within { sum sizes.now ≤ length points.now }
-    requires obstacles { length obstacles.now ≤ 64 }
-    requires first { 8000 ≤ length first.old }
-    requires some { 0 < packing.now.quota }
-    requires second { packing.now.quota * 2 ≤ length second.old }
-    requires spots { packing.now.quota * 2 ≤ length spots.old }
-{
-    let piece = RegionPiece { sizes, points };
-    pack_lattice(true, piece, obstacles, packing, first, second, spots)
-}
-
 // The place that a lone mark tries first, from a search with room for 1,600 cells.
-fn lone_place(
+pub fn lone_place(
     piece: RegionPiece,
     packing: &Packing,
     obstacles: &[Rectangle],
@@ -154,6 +111,93 @@ fn lone_place(
     lone_anchor(Point { x, y }, piece, n, ctx, obstacles, near)
 }
 
+// Random, with room for what relaxation notes of each of `n` marks.
+pub fn pack_random(
+    piece: RegionPiece,
+    obstacles: &[Rectangle],
+    packing: &Packing,
+    n: usize,
+    state: &mut u64,
+    unrooted: &mut [f64],
+    honoring: &mut [bool],
+    spots: &mut [f64],
+) -> usize
+    requires obstacles { length obstacles.now ≤ 64 }
+    requires unrooted { n ≤ length unrooted.old }
+    requires honoring { n ≤ length honoring.old }
+    requires spots { n * 2 ≤ length spots.old }
+{
+    let ctx = context(packing, packing.spread == 1, packing.strict == 1);
+    let rng = Stream { state: *state };
+    let mut near = [Rectangle::default(); 64];
+    let taken = pack_random_piece(
+        relax::Spreading::SOURCE,
+        piece,
+        n,
+        packing.attempts,
+        ctx,
+        obstacles,
+        rng,
+        &mut near[..],
+        unrooted,
+        honoring,
+        spots,
+    );
+    *state = taken.rng.state;
+    taken.count
+}
+
+// The packers are four functions of one form to C: what one of them does not need, it leaves alone.
+#[unsafe(no_mangle)]
+pub extern "C" fn probe_pack_uniform(
+    sizes: &[usize],
+    points: &[Point],
+    obstacles: &[Rectangle],
+    packing: &Packing,
+    state: &mut u64,
+    first: &mut [f64],
+    second: &mut [f64],
+    flags: &mut [bool],
+    spots: &mut [f64],
+) -> usize
+    requires outer { 0 < length sizes.now }
+    requires within { sum sizes.now ≤ length points.now }
+    requires obstacles { length obstacles.now ≤ 64 }
+    requires first { 8000 ≤ length first.old }
+    requires some { 0 < packing.now.quota }
+    requires second { packing.now.quota * 2 ≤ length second.old }
+    requires spots { packing.now.quota * 2 ≤ length spots.old }
+{
+    probe_pack_uniform_no_flags(
+        sizes, points, obstacles, packing, state, first, second, spots,
+    )
+}
+
+#[unsafe(no_mangle)]
+pub extern "C" fn probe_pack_rectangular(
+    sizes: &[usize],
+    points: &[Point],
+    obstacles: &[Rectangle],
+    packing: &Packing,
+    state: &mut u64,
+    first: &mut [f64],
+    second: &mut [f64],
+    flags: &mut [bool],
+    spots: &mut [f64],
+) -> usize
+    requires outer { 0 < length sizes.now }
+    requires within { sum sizes.now ≤ length points.now }
+    requires obstacles { length obstacles.now ≤ 64 }
+    requires first { 8000 ≤ length first.old }
+    requires some { 0 < packing.now.quota }
+    requires second { packing.now.quota * 2 ≤ length second.old }
+    requires spots { packing.now.quota * 2 ≤ length spots.old }
+{
+    probe_pack_rectangular_no_flags(
+        sizes, points, obstacles, packing, state, first, second, spots,
+    )
+}
+
 #[unsafe(no_mangle)]
 pub extern "C" fn probe_pack_low_discrepancy(
     sizes: &[usize],
@@ -163,6 +207,7 @@ pub extern "C" fn probe_pack_low_discrepancy(
     state: &mut u64,
     first: &mut [f64],
     second: &mut [f64],
+    flags: &mut [bool],
     spots: &mut [f64],
 ) -> usize
     requires outer { 0 < length sizes.now }
@@ -171,23 +216,13 @@ pub extern "C" fn probe_pack_low_discrepancy(
     requires first { 8000 ≤ length first.old }
     requires spots { packing.now.quota * 2 ≤ length spots.old }
 {
-    let ctx = context(packing, packing.spread == 1, packing.strict == 1);
-    let mut near = [Rectangle::default(); 64];
-    let piece = RegionPiece { sizes, points };
-    let anchor = lone_place(piece, packing, obstacles, &mut near[..], first);
-    pack_low_discrepancy_piece(
-        anchor,
-        piece,
-        packing.quota,
-        ctx,
-        obstacles,
-        &mut near[..],
-        spots,
+    probe_pack_low_discrepancy_no_flags(
+        sizes, points, obstacles, packing, state, first, second, spots,
     )
 }
 
-// Relaxation's flags are not lent by C: there is one for each float of a work slice, as long as probes.h has them, and no
-// more marks are packed.
+// Where the packer without flags can, it packs. The flags lent are for more marks than it has flags, and for a second slice
+// that is shorter than it asks.
 #[unsafe(no_mangle)]
 pub extern "C" fn probe_pack_random(
     sizes: &[usize],
@@ -197,32 +232,29 @@ pub extern "C" fn probe_pack_random(
     state: &mut u64,
     first: &mut [f64],
     second: &mut [f64],
+    flags: &mut [bool],
     spots: &mut [f64],
 ) -> usize
     requires outer { 0 < length sizes.now }
     requires within { sum sizes.now ≤ length points.now }
     requires obstacles { length obstacles.now ≤ 64 }
     requires first { packing.now.quota ≤ length first.old }
-    requires second { packing.now.quota ≤ length second.old }
+    requires flags { packing.now.quota ≤ length flags.old }
     requires spots { packing.now.quota * 2 ≤ length spots.old }
 {
-    let ctx = context(packing, packing.spread == 1, packing.strict == 1);
-    let rng = Stream { state: *state };
-    let mut near = [Rectangle::default(); 64];
-    let mut flags = [false; 8000];
-    let taken = pack_random_piece(
-        relax::Spreading::SOURCE,
+    if packing.quota <= 8000 && packing.quota <= second.len() {
+        return probe_pack_random_no_flags(
+            sizes, points, obstacles, packing, state, first, second, spots,
+        );
+    }
+    pack_random(
         RegionPiece { sizes, points },
-        packing.quota.min(8000),
-        packing.attempts,
-        ctx,
         obstacles,
-        rng,
-        &mut near[..],
+        packing,
+        packing.quota,
+        state,
         first,
-        &mut flags[..],
+        flags,
         spots,
-    );
-    *state = taken.rng.state;
-    taken.count
+    )
 }

@@ -11,7 +11,7 @@ pub struct ProbeRectangle {
     pub height: f64,
 }
 
-/// What a packer is told.
+/// What a packer is told: a truth value of C is one of the bytes 0 and 1.
 #[repr(C)]
 pub struct ProbePacking {
     pub radius: f64,
@@ -80,7 +80,7 @@ unsafe extern "C" {
 }
 
 macro_rules! packers {
-    ($($name:ident),*) => {
+    ($($name:ident $(, $flags:ident: $type:ty)*;)*) => {
         of_piece! {
             $(fn $name(
                 obstacles: *const ProbeRectangle, obstacle_count: usize,
@@ -88,9 +88,19 @@ macro_rules! packers {
                 state: &mut u64,
                 first: *mut f64, first_length: usize,
                 second: *mut f64, second_length: usize,
+                $($flags: $type,)*
                 spots: *mut f64, spot_floats: usize,
             ) -> usize;)*
         }
     };
 }
-packers!(probe_pack_uniform, probe_pack_rectangular, probe_pack_low_discrepancy, probe_pack_random);
+packers! {
+    probe_pack_uniform, flags: *mut bool, flag_count: usize;
+    probe_pack_rectangular, flags: *mut bool, flag_count: usize;
+    probe_pack_low_discrepancy, flags: *mut bool, flag_count: usize;
+    probe_pack_random, flags: *mut bool, flag_count: usize;
+    probe_pack_uniform_no_flags;
+    probe_pack_rectangular_no_flags;
+    probe_pack_low_discrepancy_no_flags;
+    probe_pack_random_no_flags;
+}

@@ -7,7 +7,7 @@ use harness::tally::{Tally, on_two_threads, same_floats};
 use oracle::judge::unless_too_many_wait;
 use oracle::plotting::glyphs::GlyphArrangement;
 use oracle::plotting::glyphs::discs::layers::{self, Packing};
-use probes::flat_points;
+use probes::{Packed, flat_points};
 
 use crate::lent;
 
@@ -56,10 +56,14 @@ fn compare(run: &Run, name: &str, arrangement: GlyphArrangement) -> Tally {
             }
             let packed = unless_too_many_wait(|| layers::pack_piece(&input.piece, &packing));
             let Some((spots, state)) = packed else { continue };
-            let given = lent(input).pack(&packing);
-            let same = given.placed == spots.len() as u64
-                && (counts || same_floats(&given.buffer[..2 * spots.len()], &flat_points(&spots)))
-                && given.state == state;
+            let as_the_source = |given: &Packed| {
+                given.placed == spots.len() as u64
+                    && (counts
+                        || same_floats(&given.buffer[..2 * spots.len()], &flat_points(&spots)))
+                    && given.state == state
+            };
+            let same = as_the_source(&lent(input).pack(&packing))
+                && as_the_source(&lent(input).pack_with_flags(&packing));
             tally
                 .count(same, || (format!("{}-piece-{index}.job", floor.name), floor.bytes.clone()));
         }
